@@ -1,0 +1,4 @@
+pub mod Word
+pub mod Park
+pub mod Padded
+pub mod Layout
