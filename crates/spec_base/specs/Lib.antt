@@ -2,3 +2,4 @@ pub mod Word
 pub mod Park
 pub mod Padded
 pub mod Layout
+pub mod Files

@@ -1,0 +1,5 @@
+pub mod Descriptors
+pub mod Calls
+pub mod PlainRun
+pub mod Loading
+pub mod Cache

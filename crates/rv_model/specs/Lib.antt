@@ -1,0 +1,6 @@
+pub mod Memory
+pub mod Rights
+pub mod Registers
+pub mod Arithmetic
+pub mod Effect
+pub mod Space

@@ -1,0 +1,3 @@
+//! The meaning of RV64IM and of the gate instructions: memory, the rights of each view, registers,
+//! and what one instruction does. All of it stands in specs/.
+#![tactic(auto)]
