@@ -1,0 +1,6 @@
+pub mod Assembly
+pub mod Places
+pub mod Patch
+pub mod Blocks
+pub mod Helpers
+pub mod Stub
