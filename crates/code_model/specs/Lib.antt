@@ -4,3 +4,5 @@ pub mod Patch
 pub mod Blocks
 pub mod Helpers
 pub mod Stub
+pub mod Regions
+pub mod Log

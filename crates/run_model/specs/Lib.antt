@@ -1,0 +1,9 @@
+pub mod Run
+pub mod OwnMoves
+pub mod ShadowMoves
+pub mod Moves
+pub mod Patterns
+pub mod Restarts
+pub mod Marks
+pub mod OwnLaws
+pub mod HintLaws

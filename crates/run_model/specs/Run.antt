@@ -1,0 +1,136 @@
+-- The state of a run of a rewritten program: two harts, what they share, the cache, and the counts (this project's own).
+use Rattle.std.specs.Prelude.{ℕ, zero, suc, ◌+◌, ◌*◌, ◌/◌, ◌%◌, Bool, true, false, List, [], ◌∷◌, map, slice_get, Option, Some, None}
+use Rattle.std.specs.Option.{option_and_then}
+use Rattle.spec_base.specs.Files.{Files}
+use Rattle.spec_base.specs.declared.layout.Layout.{Layout}
+use Rattle.spec_base.specs.declared.machine.Trap.{Trap}
+use Rattle.spec_base.specs.declared.machine.View.{View}
+use Rattle.spec_base.specs.declared.machine.View.TheVariants.{Program}
+use Rattle.spec_base.specs.declared.note.ShadowState.{ShadowState}
+use Rattle.spec_base.specs.declared.note.ShadowState.TheVariants.{Never}
+use Rattle.spec_base.specs.declared.note.Note.{Note}
+use Rattle.spec_base.specs.declared.spot.ReadSpot.{ReadSpot}
+use Rattle.rv_decode.specs.declared.instr.Instr.{Instr}
+use Rattle.rv_model.specs.Memory.{Memory}
+use Rattle.rv_model.specs.Registers.{Registers, all_zero}
+use Rattle.program_model.specs.Descriptors.{Descriptors}
+use Rattle.program_model.specs.PlainRun.{State, Image, text_of}
+use Rattle.program_model.specs.Cache.{Cache, empty_cache}
+use Rattle.code_model.specs.Patch.{patched_instr, patched_word}
+
+-- ---- what doesn't change in a run: the original program, and the files
+
+pub record World : Type 0 where
+  pub image : Image
+  pub files : Files
+
+-- the text of the rewritten program
+abbrev pub rewritten_text : World → List Instr
+rewritten_text w = map patched_instr (text_of w.image)
+
+abbrev pub rewritten_words : World → List ℕ
+rewritten_words w = map patched_word w.image.words
+
+-- ---- how a run ends
+
+pub data RunEnd : Type 0 where
+  Exits : (code : ℕ) → RunEnd
+  Traps : Trap → (pc : ℕ) → RunEnd
+  StoreFailed : RunEnd
+  SinkFailed : RunEnd
+
+-- ---- what the outside answered in a move: what files and sinks say, a put that took so many bytes, a failure, or a block that is lost for want of memory
+
+pub data Answer : Type 0 where
+  Usual : Answer
+  Took : (count : ℕ) → Answer
+  Failed : Answer
+  Lost : Answer
+
+-- ---- the shadow's hart
+
+pub record ShadowHart : Type 0 where
+  pub registers : Registers
+  pub pc : ℕ
+  pub files : Descriptors
+  pub state : ShadowState
+
+-- ---- what is known since the last restart: the completed own instructions, the restarting read first; the shadow's arrivals at blocks; whether the own hart has never been past the shadow; whether each put was taken whole; the hints given; the numbers of the reads that the shadow filled; the own state just before the restarting read; the shadow's words; and the regions in use at the restart
+
+pub record Since : Type 0 where
+  pub own : ℕ
+  pub shadow : ℕ
+  pub ahead : Bool
+  pub whole : Bool
+  pub hints : List ReadSpot
+  pub filled : List ℕ
+  pub origin : Option State
+  pub words : ℕ
+  pub regions : ℕ
+
+-- before the first restart nothing is behind
+abbrev pub since_start : Since
+since_start = record { own = 0; shadow = 0; ahead = true; whole = true; hints = []; filled = []; origin = None; words = 0; regions = 0 }
+
+-- ---- the run. The own hart is a plain state, with its site, the state in which it met its last gate, and its view; `asked` tells whether the stub restarted the shadow for this call; `gathered` counts the blocks that its read has; `shared` is link, table, list and copies; notes and text are those of the last move
+
+pub record Run : Type 0 where
+  pub own : State
+  pub site : ℕ
+  pub at_gate : State
+  pub view : View
+  pub asked : Bool
+  pub stalled : Bool
+  pub gathered : ℕ
+  pub own_page : Memory
+  pub shadow : ShadowHart
+  pub shadow_page : Memory
+  pub shared : Memory
+  pub cache : Cache
+  pub since : Since
+  pub moves : ℕ
+  pub own_done : ℕ
+  pub stalls : ℕ
+  pub restarts : ℕ
+  pub matched : ℕ
+  pub hints : ℕ
+  pub regions_most : ℕ
+  pub end : Option RunEnd
+  pub notes : List Note
+  pub text : List ℕ
+
+abbrev pub zeros : Memory
+zeros a = 0
+
+-- a shadow that was never restarted
+abbrev pub no_shadow : Descriptors → ShadowHart
+no_shadow files = record { registers = all_zero; pc = 0; files = files; state = Never }
+
+-- the run in which a rewritten program is opened
+abbrev pub opened_run : World → Run
+opened_run w =
+    record {
+      own = w.image.start;
+      site = 0;
+      at_gate = w.image.start;
+      view = Program;
+      asked = false;
+      stalled = false;
+      gathered = 0;
+      own_page = zeros;
+      shadow = no_shadow w.image.start.files;
+      shadow_page = zeros;
+      shared = zeros;
+      cache = empty_cache;
+      since = since_start;
+      moves = 0;
+      own_done = 0;
+      stalls = 0;
+      restarts = 0;
+      matched = 0;
+      hints = 0;
+      regions_most = 0;
+      end = None;
+      notes = [];
+      text = [];
+    }
