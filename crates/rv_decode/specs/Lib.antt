@@ -1,2 +1,4 @@
 pub mod Fields
 pub mod Instruction
+pub mod Formats
+pub mod Encoding
