@@ -4,7 +4,9 @@
 mod decoding;
 mod fields;
 mod instr;
+mod laws;
 mod operation;
 
 pub use decoding::decode;
 pub use instr::{BranchOp, ImmOp, ImmWOp, Instr, LoadOp, RegOp, RegWOp, StoreOp};
+pub use laws::{decodes_encoded, encodes_decoded};
