@@ -6,6 +6,8 @@ mod fields;
 mod instr;
 mod laws;
 mod operation;
+#[cfg(test)]
+mod tests;
 
 pub use decoding::decode;
 pub use instr::{BranchOp, ImmOp, ImmWOp, Instr, LoadOp, RegOp, RegWOp, StoreOp};
