@@ -1,4 +1,4 @@
--- The instruction of a word, by its fields.
+-- The instruction of a word, by its opcode and then by the fields that this opcode has (RISC-V Unprivileged ISA 20191213, chapter 24; the gate instructions are this project's own).
 use Rattle.std.specs.Prelude.{ℕ, ◌==◌, ◌+◌, ◌*◌, pos, true, false, if◌then◌else◌, Option, Some, None}
 use Rattle.spec_base.specs.Park.{park_with}
 use Rattle.rv_decode.specs.Fields.{bits, opcode, rd, funct3, rs1, rs2, funct7, i_imm, s_imm, b_imm, u_imm, j_imm}
@@ -19,6 +19,7 @@ use Rattle.rv_decode.specs.declared.instr.RegOp.TheVariants.{Add, Sll, Slt, Sltu
 use Rattle.rv_decode.specs.declared.instr.RegWOp.{RegWOp}
 use Rattle.rv_decode.specs.declared.instr.RegWOp.TheVariants.{Addw, Sllw, Srlw, Subw, Sraw, Mulw, Divw, Divuw, Remw, Remuw}
 
+-- BRANCH by funct3
 abbrev pub branch_op : ℕ → Option BranchOp
 branch_op f3 =
     if f3 == 0b000 then Some Beq
@@ -29,6 +30,7 @@ branch_op f3 =
     else if f3 == 0b111 then Some Bgeu
     else None
 
+-- LOAD by funct3
 abbrev pub load_op : ℕ → Option LoadOp
 load_op f3 =
     if f3 == 0b000 then Some Lb
@@ -40,6 +42,7 @@ load_op f3 =
     else if f3 == 0b110 then Some Lwu
     else None
 
+-- STORE by funct3
 abbrev pub store_op : ℕ → Option StoreOp
 store_op f3 =
     if f3 == 0b000 then Some Sb
@@ -48,7 +51,7 @@ store_op f3 =
     else if f3 == 0b011 then Some Sd
     else None
 
--- an operation on an immediate that is no shift
+-- OP-IMM that is no shift, by funct3
 abbrev pub imm_op : ℕ → Option ImmOp
 imm_op f3 =
     if f3 == 0b000 then Some Addi
@@ -59,20 +62,21 @@ imm_op f3 =
     else if f3 == 0b111 then Some Andi
     else None
 
--- a shift by an immediate, by funct3 and the bits 31 to 26
+-- OP-IMM that is a shift, by funct3 and bits 31 to 26
 abbrev pub shift_op : ℕ → ℕ → Option ImmOp
 shift_op f3 high =
     if f3 == 0b001 then (if high == 0b000000 then Some Slli else None)
     else if f3 == 0b101 then (if high == 0b000000 then Some Srli else if high == 0b010000 then Some Srai else None)
     else None
 
--- a shift of 32 bits by an immediate, by funct3 and funct7
+-- OP-IMM-32 that is a shift, by funct3 and funct7
 abbrev pub shift_w_op : ℕ → ℕ → Option ImmWOp
 shift_w_op f3 f7 =
     if f3 == 0b001 then (if f7 == 0b0000000 then Some Slliw else None)
     else if f3 == 0b101 then (if f7 == 0b0000000 then Some Srliw else if f7 == 0b0100000 then Some Sraiw else None)
     else None
 
+-- OP by funct7 and funct3
 abbrev pub reg_op : ℕ → ℕ → Option RegOp
 reg_op f7 f3 =
     if f7 == 0b0000000 then
@@ -101,6 +105,7 @@ reg_op f7 f3 =
     else None)
     else None
 
+-- OP-32 by funct7 and funct3
 abbrev pub reg_w_op : ℕ → ℕ → Option RegWOp
 reg_w_op f7 f3 =
     if f7 == 0b0000000 then
@@ -140,22 +145,24 @@ gate_of word =
     else if funct3 word == 0b111 then of_op Hpark (park_with (bits 31 15 word * 32 + rd word))
     else Illegal
 
--- an operation on an immediate: a shift takes six bits of it
+-- OP-IMM: a shift has its amount in bits 25 to 20
 abbrev pub op_imm_of : ℕ → Instr
 op_imm_of word =
     if funct3 word == 0b001 then of_op (λ op. OpImm op (rd word) (rs1 word) (pos (bits 25 20 word))) (shift_op (funct3 word) (bits 31 26 word))
     else if funct3 word == 0b101 then of_op (λ op. OpImm op (rd word) (rs1 word) (pos (bits 25 20 word))) (shift_op (funct3 word) (bits 31 26 word))
     else of_op (λ op. OpImm op (rd word) (rs1 word) (i_imm word)) (imm_op (funct3 word))
 
+-- OP-IMM-32: a shift has its amount in bits 24 to 20
 abbrev pub op_imm_w_of : ℕ → Instr
 op_imm_w_of word =
     if funct3 word == 0b000 then OpImmW Addiw (rd word) (rs1 word) (i_imm word)
     else of_op (λ op. OpImmW op (rd word) (rs1 word) (pos (bits 24 20 word))) (shift_w_op (funct3 word) (funct7 word))
 
--- a call or a break, of which each is one word
+-- SYSTEM: ECALL and EBREAK, each of one word
 abbrev pub system_of : ℕ → Instr
 system_of word = if word == 0x00000073 then Ecall else if word == 0x00100073 then Ebreak else Illegal
 
+-- the instruction of a word; the opcodes are LUI, AUIPC, JAL, JALR, BRANCH, LOAD, STORE, OP-IMM, OP-IMM-32, OP, OP-32, MISC-MEM, SYSTEM and custom-0
 unfoldable pub instr_of : ℕ → Instr
 instr_of word =
     if opcode word == 0b0110111 then Lui (rd word) (u_imm word)

@@ -4,7 +4,11 @@
 mod decoding;
 mod fields;
 mod instr;
+mod laws;
 mod operation;
+#[cfg(test)]
+mod tests;
 
 pub use decoding::decode;
 pub use instr::{BranchOp, ImmOp, ImmWOp, Instr, LoadOp, RegOp, RegWOp, StoreOp};
+pub use laws::{decodes_encoded, encodes_decoded};
