@@ -1,0 +1,4 @@
+mod Samples
+mod Rows
+mod TraceRows
+mod FillRows
