@@ -197,7 +197,7 @@ then-PutsText a b c first second false one two = (
     two.2.0,
     two.2.1,
     rw (flat_map-append (λ p. take p.taken p.offered) one.0 two.0, append_assoc)
-    (ap (λ w. w ++ (bytes_of two.0 ++ two.2.0)) one.2 ∙ ap (λ w. first ++ w) two.2.2),
+        (ap (λ w. w ++ (bytes_of two.0 ++ two.2.0)) one.2 ∙ ap (λ w. first ++ w) two.2.2),
   ),
   subst (λ n. Rose n c.faults) one.3 two.3,
 )

@@ -77,7 +77,7 @@ numbers-append : (b c : StoreState) (later sooner : List Bool) (o : Option Numbe
     → IfSome o (λ n. n.calls + length sooner < 2 ^ 64 → (b.numbers ≡ Some (numbers_after n sooner)) × AreListed n sooner)
     → IfSome b.numbers (λ n. n.calls + length later < 2 ^ 64 → (c.numbers ≡ Some (numbers_after n later)) × AreListed n later)
     → IfSome o (λ n. n.calls + length (later ++ sooner) < 2 ^ 64
-        → (c.numbers ≡ Some (numbers_after n (later ++ sooner))) × AreListed n (later ++ sooner))
+    → (c.numbers ≡ Some (numbers_after n (later ++ sooner))) × AreListed n (later ++ sooner))
 numbers-append b c later sooner None first then = tt
 numbers-append b c later sooner (Some n) first then = λ few.
     let long : length (later ++ sooner) ≡ length later + length sooner = length-append later sooner in

@@ -10,6 +10,7 @@ use std::rt::Files;
 
 // No file has as many bytes, and no block with such a number has a byte.
 const SIZE_END: u64 = 1 << 56;
+
 const BLOCK_END: u64 = SIZE_END / BLOCK as u64;
 
 /// Files of the host, opened for reading at each call. A file that isn't found, a directory and a

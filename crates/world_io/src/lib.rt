@@ -11,6 +11,8 @@ mod mem_sink;
 mod mem_store;
 mod sink;
 mod store;
+#[cfg(test)]
+mod tests;
 mod text;
 
 pub use buf_sink::BufSink;

@@ -9,9 +9,9 @@ OnErr-of (Ok v) p = tt
 OnErr-of (Err e) p = p
 
 pub returns-in_err-insert-clause-err : goal.returns-in_err-insert-clause-err
-  unfolding told
+unfolding told
 returns-in_err-insert-clause-err c = OnErr-of _ (fun_ext (λ name. search rules))
 
 pub returns-clause-added : goal.returns-clause-added
-  unfolding told
+unfolding told
 returns-clause-added c = fun_ext (λ name. search rules)

@@ -4,5 +4,5 @@ use Rattle.world_io.specs.FileMaps.{told}
 use Rattle.world_io.proofs.file_map.FileMap.new.Goals as goal
 
 pub returns : goal.returns
-  unfolding told
+unfolding told
 returns c = fun_ext (λ name. search rules)
