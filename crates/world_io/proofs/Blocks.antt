@@ -1,7 +1,7 @@
 -- Blocks of files.
-use Rattle.std.proofs.Common.{◌≡◌, ℕ, ◌+◌, ◌-◌, ◌*◌, ◌≤◌, ◌<◌, min, List, ◌++◌, length, take, drop, arith, sym, ap, refl, ◌∙◌, Some, Option}
+use Rattle.std.proofs.Common.{◌≡◌, ℕ, ◌-◌, ◌*◌, min, List, ◌++◌, length, take, drop, arith, ap, ◌∙◌, Some, Option}
 use Rattle.std.proofs.lemmas.List.{take_at, take_min, length-take, length-drop, take_all}
-use Rattle.world_io.specs.Fetches.{HasBlock, block_of}
+use Rattle.world_io.specs.Fetches.{HasBlock}
 
 -- a slice from a place on is what is left there
 rest_of : (bytes : List ℕ) (start : ℕ) → take (length bytes - start) (drop start bytes) ≡ drop start bytes

@@ -1,14 +1,12 @@
 -- Logs of sinks, put by put.
-use Rattle.std.proofs.Common.{◌≡◌, ◌≢◌, ℕ, ◌+◌, ◌-◌, ◌*◌, ◌≤◌, ◌<◌, ◌^◌, min, Bool, true, false, List, [], ◌∷◌, ◌++◌, length, take, drop, map, arith, sym, ap, subst, refl, ◌∙◌, Some, None, Option, append_assoc}
+use Rattle.std.proofs.Common.{◌≡◌, ◌≢◌, ℕ, ◌+◌, ◌-◌, ◌≤◌, ◌<◌, Bool, true, false, List, [], ◌∷◌, ◌++◌, length, take, drop, map, arith, sym, ap, subst, refl, ◌∙◌, Some, None, Option, append_assoc}
 use Rattle.std.specs.Option.{option_map}
-use Rattle.std.specs.List.{flat_map}
 use Rattle.std.proofs.lemmas.Grind.{flat_map-append}
 use Rattle.std.proofs.lemmas.List.{append-nil, map-append, length-drop, take_all, take-append-drop}
 use Rattle.world_io.specs.Outside.{SinkState, Room, Sure, Endless, Rose}
-use Rattle.world_io.specs.Puts.{PutSays, IsTakenWhole, Fits, took, room_left}
+use Rattle.world_io.specs.Puts.{PutSays, IsTakenWhole, Fits, room_left}
 use Rattle.world_io.specs.Logs.{Piece, SinkLog, bytes_of, sizes, AreTaken, AreWhole}
 use Rattle.world_io.specs.Texts.{PutsText, IsPutSurely}
-use Rattle.world_io.specs.declared.sink.Put.{Put}
 use Rattle.world_io.specs.declared.sink.Put.TheVariants.{Took, Failed}
 
 -- one more piece

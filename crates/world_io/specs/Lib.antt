@@ -4,5 +4,6 @@ pub mod Fetches
 pub mod Puts
 pub mod Buffers
 pub mod FileMaps
+pub mod MemStores
 pub mod Logs
 pub mod Texts

@@ -61,22 +61,37 @@ impl MemStore {
 }
 
 impl Store for MemStore {
-    ghost use Rattle.world_io.specs.FileMaps.{told};
+    ghost use Rattle.world_io.specs.MemStores.{told_of_store};
 
-    ghost state = { λ s. record {
-      files = Some (told s.files);
-      numbers = Some (record { calls = s.calls; fails = s.fails.items });
-      faults = s.faults;
-    } };
+    ghost state = { told_of_store };
 
-    fn look(&mut self, name: &Name) -> Look {
+    fn look(&mut self, name: &Name) -> Look
+        ensures keeps { KeepsFiles (told_of_store self.old) (told_of_store self.new) }
+        ensures failed { result ≡ Look.Failed → Rose (told_of_store self.old).faults (told_of_store self.new).faults }
+        ensures told { IfSome (told_of_store self.old).files (λ files. LookSays (files name.now) result) }
+        ensures size { LookFits result }
+        ensures number { Counts (told_of_store self.old) (look_failed result) (told_of_store self.new) }
+
+        // The count of faults is the number of failures.
+        ensures counted { (told_of_store self.new).faults ≡ faults_after (told_of_store self.old).faults (look_failed result) }
+    {
         if self.next_fails() {
             return Look::Failed;
         }
         self.files.look(name)
     }
 
-    fn fetch(&mut self, name: &Name, block: u64, into: &mut [u8]) -> Fetch {
+    fn fetch(&mut self, name: &Name, block: u64, into: &mut [u8]) -> Fetch
+        requires { length into.old ≡ 4096 }
+        ensures keeps { KeepsFiles (told_of_store self.old) (told_of_store self.new) }
+        ensures failed { result ≡ Fetch.Failed → Rose (told_of_store self.old).faults (told_of_store self.new).faults }
+        ensures told { IfSome (told_of_store self.old).files (λ files. FetchSays (files name.now) block result into.new) }
+        ensures size { FetchFits result }
+        ensures number { Counts (told_of_store self.old) (fetch_failed result) (told_of_store self.new) }
+
+        // The count of faults is the number of failures.
+        ensures counted { (told_of_store self.new).faults ≡ faults_after (told_of_store self.old).faults (fetch_failed result) }
+    {
         if self.next_fails() {
             return Fetch::Failed;
         }

@@ -118,7 +118,7 @@ fn the_host_has_files_and_writers(rt: HostRuntime) -> Result<(), Fail> {
     let data = name(path)?;
     let mut writer = HostSink::new(fs::create(&rt, path)?);
     assert!(rt; put_all(&mut writer, &file_bytes(alloc, 0, 5000)?));
-    let mut store = HostStore::new(rt.clone());
+    let mut store = HostStore::new(rt);
     assert_eq!(rt; store.look(&data), Look::Found(5000));
     assert_eq!(rt; store.look(&name(".")?), Look::Absent);
     let got = fetched(alloc, &mut store, &data, 1)?.ok_or("failed")?;

@@ -1,4 +1,4 @@
-use Rattle.std.proofs.Common.{arith, ap, Some, ◌∙◌, sym}
+use Rattle.std.proofs.Common.{ap, Some, ◌∙◌, sym}
 use Rattle.std.specs.Option.{option_map}
 use Rattle.world_io.specs.FileMaps.{told}
 use Rattle.world_io.proofs.Blocks.{copied-HasBlock}
