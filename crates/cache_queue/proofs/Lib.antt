@@ -1,0 +1,6 @@
+pub mod Spots
+pub mod Entries
+pub mod FrameTables
+pub mod Looks
+pub mod Kept
+pub mod Order
