@@ -4,3 +4,4 @@ pub mod FrameTables
 pub mod Looks
 pub mod Kept
 pub mod Order
+pub mod Rounds

@@ -1,15 +1,17 @@
 -- Lemmas on lists of a cache in which no block stands twice.
-use Rattle.std.proofs.Common.{◌≡◌, ◌≢◌, ℕ, ◌-◌, Bool, true, false, not, ◌||◌, List, [], ◌∷◌, ◌++◌, take, length, Option, Some, None, refl, sym, ◌∙◌, ap, subst, inl, inr}
+use Rattle.std.proofs.Common.{◌≡◌, ◌≢◌, ℕ, ◌-◌, Bool, true, false, not, ◌&&◌, ◌||◌, eqb, List, [], ◌∷◌, ◌++◌, take, length, Option, Some, None, refl, sym, ◌∙◌, ap, subst, inl, inr}
 use Rattle.std.specs.List.{list_any}
+use Rattle.std.proofs.lemmas.List.{take-map}
 use Rattle.std.proofs.lemmas.Bool.{cases_Bool, or_cases, or_parts, or_from, or_right, false_from_ne_true}
 use Rattle.spec_base.specs.declared.spot.BlockSpot.{BlockSpot}
-use Rattle.spec_base.specs.contracts.spot.BlockSpotPartialEq.TheImpl.{eq-value}
+use Rattle.std.specs.Str.{bytes_eq}
 use Rattle.program_model.specs.Cache.{Cache, same_block, holds, without, is_demanded, is_idle_hint, used, awaited, landed, landed_from, in_flight, flight_of, first_of, rest_of}
 use Rattle.cache_queue.specs.Orders.{AreApart, IsOrderly}
+use Rattle.cache_queue.specs.State.{CacheState, lists, with_block}
 use Rattle.cache_queue.proofs.Spots.{same_from_same_block, same_block-self, test_is, holds-at, holds-take, holds-append, without-other, without-self, AreApart-without, AreApart-append}
 
 -- a scan by the blocks' own test says whether the list has the block
-pub list_any-holds : (xs : List BlockSpot) (spot : BlockSpot) → list_any (λ x. (eq-value).it spot x) xs ≡ holds xs spot
+pub list_any-holds : (xs : List BlockSpot) (spot : BlockSpot) → list_any (λ x. bytes_eq spot.name x.name && eqb spot.block x.block) xs ≡ holds xs spot
 list_any-holds [] spot = refl
 list_any-holds (x ∷ xs) spot = λ i. test_is spot x i || list_any-holds xs spot i
 
@@ -111,3 +113,11 @@ IsOrderly-kept c n spot o apart idle =
       demanded = λ s h. absurd (clash (is_demanded c.demanded s) h (ap (λ d. is_demanded d s) idle));
       apart = o.apart
     }
+
+pub IsOrderly-with_block : (c : CacheState) (spot : BlockSpot) (bytes : List ℕ) → IsOrderly (lists c) → holds c.queue spot ≡ false → c.demanded ≡ None → IsOrderly (lists (record c { blocks = with_block c.blocks spot bytes }))
+IsOrderly-with_block c spot bytes o apart idle =
+    let n = c.blocks.most - 1 in
+    subst
+    (λ ks. IsOrderly (record { cached = spot ∷ ks; queue = c.queue; demanded = c.demanded }))
+    (take-map (λ (e : BlockSpot × List ℕ). e.0) n c.blocks.entries)
+    (IsOrderly-kept (lists c) n spot o apart idle)

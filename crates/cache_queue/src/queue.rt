@@ -1,6 +1,7 @@
 //! The queue of fetches.
 
-ghost use Rattle.std.specs.Prelude.{◌≡◌, ◌≤◌, ◌<◌, length};
+ghost use Rattle.std.specs.Prelude.{◌≡◌, ◌==◌, ◌&&◌, bytes_eq};
+ghost use Rattle.std.specs.List.{list_any};
 ghost use Rattle.circular_buffer.specs.Buffer.{buffer};
 ghost use Rattle.program_model.specs.Cache.{holds, without};
 
@@ -10,6 +11,13 @@ use spec_base::BlockSpot;
 /// Whether the block is queued.
 pub(crate) fn is_queued(queue: &HeapCircularBuffer<BlockSpot>, spot: &BlockSpot) -> bool
     ensures { result ≡ holds queue.now.items spot.now }
+{
+    scan(queue, spot)
+}
+
+// The same, as the comparison of two blocks tells it.
+fn scan(queue: &HeapCircularBuffer<BlockSpot>, spot: &BlockSpot) -> bool
+    ensures { result ≡ list_any (λ x. bytes_eq spot.now.name x.name && spot.now.block == x.block) queue.now.items }
 {
     queue.iter().any(|queued| *spot == *queued)
 }
