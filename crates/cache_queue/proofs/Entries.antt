@@ -1,12 +1,11 @@
 -- Lemmas on cached blocks with something beside each: a frame, or bytes.
-use Rattle.std.proofs.Common.{◌≡◌, ◌≢◌, ℕ, zero, suc, ◌-◌, Bool, true, false, not, ◌||◌, cond, List, [], ◌∷◌, map, take, length, Option, Some, None, is_some, IsSome, option_map, refl, sym, ◌∙◌, ap, subst, inl, inr, arith}
+use Rattle.std.proofs.Common.{◌≡◌, Bool, false, cond, List, [], ◌∷◌, map, Some, is_some, option_map, refl, sym, ◌∙◌, ap, subst, inl, inr}
 use Rattle.std.specs.Map.{lookup, lookup_entry, remove_entry}
-use Rattle.std.proofs.lemmas.Bool.{cases_Bool, or_parts, or_from, or_left, false_from_ne_true}
-use Rattle.lru.specs.LruCache.{promoted}
+use Rattle.std.proofs.lemmas.Bool.{cases_Bool}
 use Rattle.spec_base.specs.declared.spot.BlockSpot.{BlockSpot}
 use Rattle.program_model.specs.Cache.{same_block, holds, without}
 use Rattle.cache_queue.specs.Orders.{AreApart}
-use Rattle.cache_queue.proofs.Spots.{same_from_same_block, same_block-self, without-absent, holds-at}
+use Rattle.cache_queue.proofs.Spots.{same_from_same_block, without-absent, holds-at}
 
 -- whether an entry's block is this one
 abbrev pub is_of : BlockSpot → BlockSpot → Bool

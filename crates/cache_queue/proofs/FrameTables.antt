@@ -1,10 +1,10 @@
 -- Lemmas on cached blocks and their frames.
-use Rattle.std.proofs.Common.{◌≡◌, ◌≢◌, ℕ, zero, suc, ◌-◌, ◌+◌, Bool, true, false, cond, List, [], ◌∷◌, map, take, length, Option, Some, None, refl, sym, ◌∙◌, ap, subst, inl, inr, arith}
+use Rattle.std.proofs.Common.{◌≡◌, ◌≢◌, ℕ, zero, suc, Bool, List, [], ◌∷◌, take, Some, refl, sym, ap, subst, inl, inr}
 use Rattle.std.specs.List.{slice_get}
 use Rattle.std.specs.Option.{unwrap_or}
 use Rattle.std.specs.Map.{lookup_entry, remove_entry}
 use Rattle.std.proofs.lemmas.Bool.{cases_Bool}
-use Rattle.page_pool.specs.Frames.{Frames, frame_at, bytes_at, IsInUse, KeepsOthers, IsTaken}
+use Rattle.page_pool.specs.Frames.{Frames, bytes_at, IsInUse, KeepsOthers, IsTaken}
 use Rattle.page_pool.proofs.FrameLemmas.{IsTaken-apart, KeepsOthers-IsInUse}
 use Rattle.spec_base.specs.declared.spot.BlockSpot.{BlockSpot}
 use Rattle.cache_queue.specs.Frames.{shown, Misses, HaveFrames}

@@ -1,14 +1,14 @@
 -- What keeping a block, and reading one, leave of the fields of the cached blocks.
-use Rattle.std.proofs.Common.{◌≡◌, ◌≢◌, ℕ, zero, suc, ◌+◌, ◌-◌, ◌<◌, ◌≤◌, Bool, true, false, List, [], ◌∷◌, ◌++◌, map, take, drop, length, Option, Some, None, is_some, IsSome, option_map, refl, sym, ◌∙◌, ap, subst, inl, inr, arith, append-nil, length-take}
+use Rattle.std.proofs.Common.{◌≡◌, ℕ, zero, suc, ◌+◌, ◌-◌, ◌≤◌, false, List, [], ◌∷◌, ◌++◌, take, drop, length, Option, Some, None, is_some, IsSome, option_map, refl, sym, ◌∙◌, ap, subst, inl, inr, arith, append-nil, length-take}
 use Rattle.std.specs.List.{slice_get}
-use Rattle.std.specs.Option.{option_map_or, unwrap_or, IfSome}
+use Rattle.std.specs.Option.{option_map_or, unwrap_or}
 use Rattle.std.specs.Map.{lookup, lookup_entry, remove_entry}
 use Rattle.std.proofs.lemmas.Bool.{cases_Bool}
 use Rattle.std.proofs.lemmas.List.{take-map, drop_all}
 use Rattle.std.proofs.lemmas.Option.{slice_get_within}
 use Rattle.lru.specs.LruCache.{LruCache, lru_cache, promoted, put_entries, displaced}
 use Rattle.page_pool.specs.Pages.{blank_page, overwritten}
-use Rattle.page_pool.specs.Frames.{Frames, reserved, frame_at, bytes_at, IsInUse, KeepsOthers, IsTaken, IsWritten, IsGiven}
+use Rattle.page_pool.specs.Frames.{Frames, reserved, frame_at, bytes_at, IsInUse, IsTaken, IsWritten, IsGiven}
 use Rattle.page_pool.proofs.PageLemmas.{length-blank_page}
 use Rattle.page_pool.proofs.FrameLemmas.{KeepsOthers-IsInUse}
 use Rattle.spec_base.specs.declared.spot.BlockSpot.{BlockSpot}

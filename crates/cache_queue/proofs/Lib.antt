@@ -5,3 +5,4 @@ pub mod Looks
 pub mod Kept
 pub mod Order
 pub mod Rounds
+pub mod Truth

@@ -1,11 +1,11 @@
 -- Lemmas on lists of a cache in which no block stands twice.
-use Rattle.std.proofs.Common.{◌≡◌, ◌≢◌, ℕ, ◌-◌, Bool, true, false, not, ◌&&◌, ◌||◌, eqb, List, [], ◌∷◌, ◌++◌, take, length, Option, Some, None, refl, sym, ◌∙◌, ap, subst, inl, inr}
+use Rattle.std.proofs.Common.{◌≡◌, ℕ, ◌-◌, Bool, true, false, ◌&&◌, ◌||◌, eqb, List, [], ◌∷◌, ◌++◌, take, Some, None, refl, sym, ◌∙◌, ap, subst, inl, inr}
 use Rattle.std.specs.List.{list_any}
 use Rattle.std.proofs.lemmas.List.{take-map}
-use Rattle.std.proofs.lemmas.Bool.{cases_Bool, or_cases, or_parts, or_from, or_right, false_from_ne_true}
+use Rattle.std.proofs.lemmas.Bool.{or_cases, or_parts, or_from, or_right, false_from_ne_true}
 use Rattle.spec_base.specs.declared.spot.BlockSpot.{BlockSpot}
 use Rattle.std.specs.Str.{bytes_eq}
-use Rattle.program_model.specs.Cache.{Cache, same_block, holds, without, is_demanded, is_idle_hint, used, awaited, landed, landed_from, in_flight, flight_of, first_of, rest_of}
+use Rattle.program_model.specs.Cache.{Cache, same_block, holds, without, is_demanded, is_idle_hint, used, awaited, kept}
 use Rattle.cache_queue.specs.Orders.{AreApart, IsOrderly}
 use Rattle.cache_queue.specs.State.{CacheState, lists, with_block}
 use Rattle.cache_queue.proofs.Spots.{same_from_same_block, same_block-self, test_is, holds-at, holds-take, holds-append, without-other, without-self, AreApart-without, AreApart-append}
@@ -121,3 +121,8 @@ IsOrderly-with_block c spot bytes o apart idle =
     (λ ks. IsOrderly (record { cached = spot ∷ ks; queue = c.queue; demanded = c.demanded }))
     (take-map (λ (e : BlockSpot × List ℕ). e.0) n c.blocks.entries)
     (IsOrderly-kept (lists c) n spot o apart idle)
+
+pub lists-with_block : (c : CacheState) (spot : BlockSpot) (bytes : List ℕ) → lists (record c { blocks = with_block c.blocks spot bytes }) ≡ kept c.blocks.most (lists c) spot
+lists-with_block c spot bytes =
+    let first = take-map (λ (e : BlockSpot × List ℕ). e.0) (c.blocks.most - 1) c.blocks.entries in
+    λ i. record { cached = spot ∷ sym first i; queue = c.queue; demanded = c.demanded }

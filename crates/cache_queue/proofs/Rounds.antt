@@ -1,11 +1,10 @@
 -- Lemmas on passing the queue round: each block goes from the front to the back, but one that is taken out.
-use Rattle.std.proofs.Common.{◌≡◌, ℕ, ◌+◌, ◌-◌, ◌<◌, ◌≤◌, Bool, true, false, not, ◌&&◌, eqb, List, [], ◌∷◌, ◌++◌, take, drop, filter, length, get_or, Option, Some, None, Result, Ok, Err, IsOk, OnOk, IfErr, ◌⊎◌, refl, sym, ◌∙◌, ap, subst, inl, inr, arith, append_assoc, append-nil, length-take, length-drop, length-append}
+use Rattle.std.proofs.Common.{◌≡◌, ℕ, ◌+◌, ◌<◌, ◌≤◌, Bool, true, false, not, ◌&&◌, eqb, List, [], ◌∷◌, ◌++◌, take, drop, length, get_or, Some, None, Result, Ok, Err, IsOk, OnOk, IfErr, ◌⊎◌, refl, sym, ◌∙◌, ap, inl, inr, arith, append_assoc, append-nil, length-take, length-drop, length-append}
 use Rattle.std.specs.List.{slice_get}
 use Rattle.std.specs.Str.{bytes_eq}
-use Rattle.std.proofs.lemmas.Bool.{not_from_true, not_from_false}
 use Rattle.std.proofs.lemmas.List.{drop_more, take_more}
 use Rattle.std.proofs.lemmas.List.Elements.{filter-append}
-use Rattle.circular_buffer.specs.Buffer.{Buffer, buffer}
+use Rattle.circular_buffer.specs.Buffer.{Buffer}
 use Rattle.spec_base.specs.declared.spot.BlockSpot.{BlockSpot}
 use Rattle.program_model.specs.Cache.{same_block, without}
 use Rattle.cache_queue.proofs.Spots.{test_is}

@@ -1,10 +1,10 @@
 -- What a finish of a fetch says (this project's own).
-use Rattle.std.specs.Prelude.{◌≡◌, ℕ, ◌-◌, Bool, true, false, List, ◌++◌, length, replicate, Option, Some, None, IfSome}
+use Rattle.std.specs.Prelude.{◌≡◌, ℕ, ◌-◌, true, false, List, ◌++◌, length, replicate, Option, Some, None, IfSome}
 use Rattle.spec_base.specs.declared.spot.BlockSpot.{BlockSpot}
 use Rattle.world_io.specs.Outside.{Files, StoreState, Rose, Counts}
 use Rattle.world_io.specs.Fetches.{block_of}
-use Rattle.program_model.specs.Cache.{in_flight, landed, kept}
-use Rattle.cache_queue.specs.State.{CachedBlocks, CacheState, lists, bytes_of, with_block, with_flights}
+use Rattle.program_model.specs.Cache.{Cache, in_flight, landed, kept}
+use Rattle.cache_queue.specs.State.{CachedBlocks, CacheState, lists, bytes_of, with_block}
 use Rattle.cache_queue.specs.declared.finish.Finished.{Finished}
 use Rattle.cache_queue.specs.declared.finish.Finished.TheVariants.{Nothing, Put, Lost, Dropped, Fault}
 
@@ -12,25 +12,42 @@ use Rattle.cache_queue.specs.declared.finish.Finished.TheVariants.{Nothing, Put,
 abbrev pub padded_block : Option (List ℕ) → ℕ → List ℕ
 padded_block file block = block_of file block ++ replicate (4096 - length (block_of file block)) 0
 
--- the block in flight is this one, and it has left the demanded one or the queue
-abbrev pub Lands : CacheState → BlockSpot → CacheState → Type 0
-Lands old spot new = (in_flight (lists old) ≡ Some spot) × (new ≡ with_flights old (landed (lists old)))
+-- ---- the lists and the blocks
+
+-- which block was in flight, by the answer; a demanded one isn't dropped, and a queued one is no fault
+abbrev pub IsOf : Cache → Finished → Type 0
+IsOf c Nothing = in_flight c ≡ None
+IsOf c (Put spot) = in_flight c ≡ Some spot
+IsOf c (Lost spot) = in_flight c ≡ Some spot
+IsOf c (Dropped spot) = (c.demanded ≡ None) × (in_flight c ≡ Some spot)
+IsOf c (Fault spot) = c.demanded ≡ Some spot
+
+-- the lists afterwards
+abbrev pub finished : ℕ → Cache → Finished → Cache
+finished most c Nothing = c
+finished most c (Put spot) = kept most (landed c) spot
+finished most c (Lost spot) = landed c
+finished most c (Dropped spot) = landed c
+finished most c (Fault spot) = landed c
+
+-- the cached blocks afterwards, where the buffer has these bytes
+abbrev pub with_finished : CachedBlocks → Finished → List ℕ → CachedBlocks
+with_finished c (Put spot) bytes = with_block c spot bytes
+with_finished c (Lost spot) bytes = c
+with_finished c Nothing bytes = c
+with_finished c (Dropped spot) bytes = c
+with_finished c (Fault spot) bytes = c
 
 -- a block that was fetched was cached, or lost
 abbrev pub IsKept : CacheState → BlockSpot → List ℕ → Finished → CacheState → Type 0
-IsKept old spot bytes (Put x) new = (x ≡ spot) × (new ≡ record old { blocks = with_block old.blocks spot bytes })
+IsKept old spot bytes (Put x) new = (x ≡ spot) × (lists new ≡ kept old.blocks.most (lists old) spot)
+    × (new.blocks ≡ with_block old.blocks spot bytes) × (new.depth ≡ old.depth)
 IsKept old spot bytes (Lost x) new = (x ≡ spot) × (new ≡ old)
 IsKept old spot bytes Nothing new = ⊥
 IsKept old spot bytes (Dropped x) new = ⊥
 IsKept old spot bytes (Fault x) new = ⊥
 
--- what each answer says of the cache, where the buffer has these bytes afterwards
-abbrev pub Finishes : CacheState → Finished → List ℕ → CacheState → Type 0
-Finishes old Nothing bytes new = (in_flight (lists old) ≡ None) × (new ≡ old)
-Finishes old (Put spot) bytes new = Lands old spot (record new { blocks = old.blocks }) × (new.blocks ≡ with_block old.blocks spot bytes)
-Finishes old (Lost spot) bytes new = Lands old spot new
-Finishes old (Dropped spot) bytes new = Lands old spot new × (old.demanded ≡ None)
-Finishes old (Fault spot) bytes new = Lands old spot new × (old.demanded ≡ Some spot)
+-- ---- the store
 
 -- the bytes that were fetched are those of the file
 abbrev pub FinishTells : Files → Finished → List ℕ → Type 0
@@ -55,6 +72,8 @@ FinishCounts old (Put spot) new = Counts old false new
 FinishCounts old (Lost spot) new = Counts old false new
 FinishCounts old (Dropped spot) new = Counts old true new
 FinishCounts old (Fault spot) new = Counts old true new
+
+-- ---- contents
 
 -- each cached block has the bytes of the file
 abbrev pub TrueTo : Files → CachedBlocks → Type 0

@@ -42,7 +42,3 @@ lists c = record { cached = keys_of c.blocks; queue = c.queue; demanded = c.dema
 -- a cache of nothing
 abbrev pub no_blocks : ℕ → ℕ → CacheState
 no_blocks most depth = record { blocks = record { entries = []; most = most }; queue = []; demanded = None; depth = depth }
-
--- the queue and the demanded block are those of these lists, and nothing else changed
-abbrev pub with_flights : CacheState → Cache → CacheState
-with_flights c l = record c { queue = l.queue; demanded = l.demanded }

@@ -1,5 +1,5 @@
 -- What holds of the fields of the cached blocks.
-use Rattle.std.specs.Prelude.{◌≡◌, ℕ, ◌+◌, ◌≤◌, ◌<◌, length, map}
+use Rattle.std.specs.Prelude.{◌≡◌, ◌+◌, ◌≤◌, ◌<◌, length, map}
 use Rattle.cache_queue.specs.Frames.{shown, HaveFrames}
 use Rattle.cache_queue.specs.Orders.{AreApart}
 use Rattle.cache_queue.specs.State.{CachedBlocks}

@@ -2,7 +2,7 @@
 
 ghost use Rattle.std.specs.Prelude.{◌≡◌, ◌≤◌, ◌<◌, ◌↔◌, true, false, length, IfOk, Some, None};
 ghost use Rattle.program_model.specs.Cache.{holds, is_demanded, is_idle_hint, needed, hinted};
-ghost use Rattle.cache_queue.specs.State.{lists, bytes_of, no_blocks, with_flights, SameBytes};
+ghost use Rattle.cache_queue.specs.State.{lists, bytes_of, no_blocks, SameBytes};
 
 use crate::blocks::Blocks;
 use crate::queue::{is_queued, unqueue};
@@ -88,7 +88,9 @@ impl Cache {
 
     /// Queues a block to be fetched, unless it is cached, queued or demanded, or the queue is full.
     pub fn hint(&mut self, spot: BlockSpot)
-        ensures { self.new ≡ with_flights self.old (hinted self.old.depth (lists self.old) spot) }
+        ensures lists { lists self.new ≡ hinted self.old.depth (lists self.old) spot }
+        ensures blocks { self.new.blocks ≡ self.old.blocks }
+        ensures depth { self.new.depth ≡ self.old.depth }
     {
         if self.is_idle(&spot) {
             return;

@@ -4,7 +4,7 @@ ghost use Rattle.std.specs.Prelude.{◌≡◌, ◌++◌, true, false, not, lengt
 ghost use Rattle.world_io.specs.Outside.{KeepsFiles, Rose, Counts, Files};
 ghost use Rattle.program_model.specs.Cache.{holds};
 ghost use Rattle.cache_queue.specs.State.{lists};
-ghost use Rattle.cache_queue.specs.Finishes.{padded_block, IsKept, Finishes, FinishTells, FinishFails, FinishCounts, TrueTo};
+ghost use Rattle.cache_queue.specs.Finishes.{padded_block, IsOf, finished, with_finished, IsKept, FinishTells, FinishFails, FinishCounts, TrueTo};
 
 use crate::cache::Cache;
 use spec_base::BlockSpot;
@@ -48,11 +48,15 @@ impl Cache {
     /// leaves the cache.
     pub fn finish<D: Store>(&mut self, store: &mut D, into: &mut [u8]) -> Finished
         requires { length into.old ≡ 4096 }
-        ensures finishes { Finishes self.old result into.new self.new }
+        ensures block { IsOf (lists self.old) result }
+        ensures lists { lists self.new ≡ finished self.old.blocks.most (lists self.old) result }
+        ensures blocks { self.new.blocks ≡ with_finished self.old.blocks result into.new }
+        ensures depth { self.new.depth ≡ self.old.depth }
         ensures told { IfSome (D.state store.old).files (λ files. FinishTells files result into.new) }
         ensures keeps { KeepsFiles (D.state store.old) (D.state store.new) }
         ensures failed { FinishFails (D.state store.old).faults result (D.state store.new).faults }
         ensures number { FinishCounts (D.state store.old) result (D.state store.new) }
+        ensures true_to { (files : Files) → (D.state store.old).files ≡ Some files → TrueTo files self.old.blocks → TrueTo files self.new.blocks }
     {
         if let Some(spot) = self.demanded {
             self.demanded = None;

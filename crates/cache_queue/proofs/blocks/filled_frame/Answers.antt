@@ -1,4 +1,4 @@
-use Rattle.std.proofs.Common.{◌≡◌, Some, subst}
+use Rattle.std.proofs.Common.{subst}
 use Rattle.std.specs.Option.{IfSome}
 use Rattle.page_pool.specs.Frames.{IsTaken}
 use Rattle.cache_queue.proofs.Kept.{filled_from}

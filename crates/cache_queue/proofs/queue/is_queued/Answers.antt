@@ -1,4 +1,4 @@
-use Rattle.std.proofs.Common.{◌≡◌, ◌∙◌}
+use Rattle.std.proofs.Common.{◌∙◌}
 use Rattle.cache_queue.proofs.Order.{list_any-holds}
 use Rattle.cache_queue.proofs.queue.is_queued.Goals as goal
 

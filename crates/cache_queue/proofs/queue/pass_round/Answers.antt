@@ -1,5 +1,5 @@
-use Rattle.std.proofs.Common.{◌≡◌, ◌<◌, ◌++◌, ◌∷◌, [], drop, length, sym, ◌∙◌, ap, subst, arith}
-use Rattle.circular_buffer.specs.Buffer.{Buffer, buffer}
+use Rattle.std.proofs.Common.{◌<◌, ◌++◌, ◌∷◌, [], length, ◌∙◌, ap, arith}
+use Rattle.circular_buffer.specs.Buffer.{Buffer}
 use Rattle.spec_base.specs.declared.spot.BlockSpot.{BlockSpot}
 use Rattle.cache_queue.proofs.Rounds.{pushed_surely, differs, agrees, never_empty, rest_short, goes_back, goes_away}
 use Rattle.cache_queue.proofs.queue.pass_round.Goals as goal

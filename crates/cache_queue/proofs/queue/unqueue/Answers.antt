@@ -1,4 +1,4 @@
-use Rattle.std.proofs.Common.{◌≡◌, sym, ◌∙◌, ap}
+use Rattle.std.proofs.Common.{sym, ap}
 use Rattle.circular_buffer.specs.Buffer.{buffer}
 use Rattle.cache_queue.proofs.Spots.{without-absent}
 use Rattle.cache_queue.proofs.queue.unqueue.Goals as goal

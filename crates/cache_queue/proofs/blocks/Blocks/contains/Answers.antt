@@ -1,4 +1,4 @@
-use Rattle.std.proofs.Common.{◌≡◌, ◌∙◌}
+use Rattle.std.proofs.Common.{◌∙◌}
 use Rattle.cache_queue.proofs.Looks.{holds-shown}
 use Rattle.cache_queue.proofs.blocks.Blocks.contains.Goals as goal
 

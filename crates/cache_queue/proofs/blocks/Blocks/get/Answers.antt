@@ -1,11 +1,10 @@
-use Rattle.std.proofs.Common.{◌≡◌, Some, None, is_some, ◌∷◌, List, ℕ, sym, refl, ◌∙◌, ap, subst}
-use Rattle.std.specs.Map.{lookup, remove_entry}
+use Rattle.std.proofs.Common.{◌≡◌, Some, is_some, ◌∷◌, ℕ, sym, refl, ◌∙◌, ap, subst}
+use Rattle.std.specs.Map.{lookup}
 use Rattle.lru.specs.LruCache.{LruCache, lru_cache}
 use Rattle.spec_base.specs.declared.spot.BlockSpot.{BlockSpot}
 use Rattle.cache_queue.specs.Frames.{shown}
 use Rattle.cache_queue.specs.State.{CachedBlocks, keys_of, bytes_of}
 use Rattle.cache_queue.specs.Storage.{cached_of, IsSound}
-use Rattle.cache_queue.specs.declared.blocks.Blocks.TheInside.{Inside}
 use Rattle.program_model.specs.Cache.{without}
 use Rattle.cache_queue.proofs.Entries.{is_of, keys}
 use Rattle.cache_queue.proofs.Looks.{is_equal_to, holds-shown, IsInUse-found, lookup-shown}

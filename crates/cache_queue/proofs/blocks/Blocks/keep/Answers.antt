@@ -1,15 +1,11 @@
-use Rattle.std.proofs.Common.{◌≡◌, ◌-◌, Some, None, is_some, ◌∷◌, List, ℕ, Bool, false, take, sym, refl, ◌∙◌, ap, subst}
-use Rattle.std.specs.Map.{lookup}
-use Rattle.lru.specs.LruCache.{LruCache, lru_cache, put_entries}
+use Rattle.std.proofs.Common.{◌≡◌, ◌-◌, Some, None, ℕ, false, sym, ◌∙◌, ap, subst}
+use Rattle.lru.specs.LruCache.{LruCache}
 use Rattle.spec_base.specs.declared.spot.BlockSpot.{BlockSpot}
 use Rattle.program_model.specs.Cache.{holds}
-use Rattle.page_pool.specs.Frames.{Frames, IsGiven}
-use Rattle.cache_queue.specs.Frames.{shown}
-use Rattle.cache_queue.specs.State.{CachedBlocks, keys_of, bytes_of, with_block}
+use Rattle.page_pool.specs.Frames.{IsGiven}
+use Rattle.cache_queue.specs.State.{CachedBlocks, keys_of, with_block}
 use Rattle.cache_queue.specs.Storage.{cached_of, IsSound}
-use Rattle.cache_queue.proofs.Entries.{is_of, keys}
-use Rattle.cache_queue.proofs.Looks.{is_equal_to}
-use Rattle.cache_queue.proofs.Kept.{left_is, IsSound-put_frames, shown-put_frames, IsPut-room, IsPut-left, IsInUse-left, IsSound-back, shown-back}
+use Rattle.cache_queue.proofs.Kept.{left_is, IsSound-put_frames, shown-put_frames, IsPut-room, IsPut-left, IsInUse-left, IsSound-back}
 use Rattle.cache_queue.proofs.blocks.Blocks.keep.Goals as goal
 
 -- ---- there was a place left

@@ -1,4 +1,4 @@
-use Rattle.std.proofs.Common.{◌≡◌, Some, is_some, sym, ◌∙◌, ap}
+use Rattle.std.proofs.Common.{Some, is_some, sym, ◌∙◌, ap}
 use Rattle.cache_queue.proofs.Looks.{holds-shown, IsInUse-found, lookup-shown}
 use Rattle.cache_queue.proofs.blocks.Blocks.peek.Goals as goal
 

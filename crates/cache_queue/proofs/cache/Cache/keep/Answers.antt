@@ -1,9 +1,10 @@
-use Rattle.std.proofs.Common.{◌≡◌, false, None, sym, subst}
+use Rattle.std.proofs.Common.{◌≡◌, false, None, refl, sym, ◌∙◌, ap, subst}
 use Rattle.program_model.specs.Cache.{holds}
 use Rattle.cache_queue.specs.Orders.{IsOrderly}
 use Rattle.cache_queue.specs.State.{CachedBlocks, CacheState, lists}
+use Rattle.cache_queue.specs.Finishes.{IsKept}
 use Rattle.cache_queue.specs.Flights.{state_of}
-use Rattle.cache_queue.proofs.Order.{IsOrderly-with_block}
+use Rattle.cache_queue.proofs.Order.{IsOrderly-with_block, lists-with_block}
 use Rattle.cache_queue.proofs.cache.Cache.keep.Goals as goal
 use Rattle.cache_queue.proofs.cache.Cache.keep.Goals.{in-Ok, in-Err}
 
@@ -22,3 +23,30 @@ invariant_of-self c = elim c.match-keep.branch [
     (sym w.in-Err.ensures.err)
     c.self.invariant
 ]
+
+pub returns : goal.returns
+returns c =
+    subst
+    (λ (s : CacheState). IsKept s c.args.spot.now c.args.bytes.now c.match-keep.result (record { blocks = c.keep.new.self; queue = c.self.inside.queue.items; demanded = c.self.inside.demanded; depth = c.self.inside.queue.capacity }))
+    c.self.view_is
+    (elim c.match-keep.branch [
+      | in-Ok w ↦
+        subst
+        (λ r. IsKept (state_of c.self.inside) c.args.spot.now c.args.bytes.now r (record { blocks = c.keep.new.self; queue = c.self.inside.queue.items; demanded = c.self.inside.demanded; depth = c.self.inside.queue.capacity }))
+        (sym w.result-is)
+        (
+          refl,
+          ap (λ (b : CachedBlocks). lists (record { blocks = b; queue = c.self.inside.queue.items; demanded = c.self.inside.demanded; depth = c.self.inside.queue.capacity })) w.in-Ok.ensures.ok
+          ∙ lists-with_block (state_of c.self.inside) c.args.spot.now c.args.bytes.now,
+          w.in-Ok.ensures.ok,
+          refl
+        )
+      | in-Err w ↦
+        subst
+        (λ r. IsKept (state_of c.self.inside) c.args.spot.now c.args.bytes.now r (record { blocks = c.keep.new.self; queue = c.self.inside.queue.items; demanded = c.self.inside.demanded; depth = c.self.inside.queue.capacity }))
+        (sym w.result-is)
+        (
+          refl,
+          ap (λ (b : CachedBlocks). record { blocks = b; queue = c.self.inside.queue.items; demanded = c.self.inside.demanded; depth = c.self.inside.queue.capacity }) w.in-Err.ensures.err
+        )
+    ])
