@@ -45,9 +45,9 @@ module _ {V : Type 0} where
   found_entry spot (e ∷ es) v found =
       elim (cases_Bool (same_block e.0 spot)) [
         | inl same ↦
-          let key : e.0 ≡ spot = same_from_same_block e.0 spot same in
-          let value : e.1 ≡ v = some_same e.1 v (rw same at found) in
-          rw same (λ i. Some (key i, value i))
+            let key : e.0 ≡ spot = same_from_same_block e.0 spot same in
+            let value : e.1 ≡ v = some_same e.1 v (rw same at found) in
+            rw same (λ i. Some (key i, value i))
         | inr apart ↦ rw apart (found_entry spot es v (rw apart at found))
       ]
     where
@@ -59,8 +59,8 @@ module _ {V : Type 0} where
   keys-remove spot (e ∷ es) apart =
       elim (cases_Bool (same_block e.0 spot)) [
         | inl same ↦
-          let absent : holds (keys es) spot ≡ false = sym (holds-at (keys es) e.0 spot same) ∙ apart.0 in
-          rw same (sym (without-absent (keys es) spot absent))
+            let absent : holds (keys es) spot ≡ false = sym (holds-at (keys es) e.0 spot same) ∙ apart.0 in
+            rw same (sym (without-absent (keys es) spot absent))
         | inr other ↦ rw other (ap (λ ks. e.0 ∷ ks) (keys-remove spot es apart.1))
       ]
 
@@ -69,8 +69,8 @@ module _ {V : Type 0} where
   lookup-remove_other spot other (e ∷ es) apart =
       elim (cases_Bool (same_block e.0 spot)) [
         | inl same ↦
-          let differs : same_block e.0 other ≡ false = ap (λ s. same_block s other) (same_from_same_block e.0 spot same) ∙ apart in
-          rw (same, differs) refl
+            let differs : same_block e.0 other ≡ false = ap (λ s. same_block s other) (same_from_same_block e.0 spot same) ∙ apart in
+            rw (same, differs) refl
         | inr past ↦ rw past (ap (cond (same_block e.0 other) (Some e.1)) (lookup-remove_other spot other es apart))
       ]
 

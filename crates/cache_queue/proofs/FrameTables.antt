@@ -40,10 +40,10 @@ module _ (test : BlockSpot → Bool) where
   HaveFrames-found p (f ∷ es) e h found =
       elim (cases_Bool (test f.0)) [
         | inl same ↦ let it : f ≡ e = some_same f e (rw same at found) in
-          rw same (subst (λ g. IsInUse p g.1 × Misses es g.1) it (h.0, h.1))
+            rw same (subst (λ g. IsInUse p g.1 × Misses es g.1) it (h.0, h.1))
         | inr apart ↦
-          let on = HaveFrames-found p es e h.2 (rw apart at found) in
-          rw apart (on.0, (λ q. found_misses es e f.1 h.1 (rw apart at found) (sym q), on.1))
+            let on = HaveFrames-found p es e h.2 (rw apart at found) in
+            rw apart (on.0, (λ q. found_misses es e f.1 h.1 (rw apart at found) (sym q), on.1))
       ]
     where
       some_same : (a b : BlockSpot × ℕ) → Some a ≡ Some b → a ≡ b

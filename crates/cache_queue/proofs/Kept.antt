@@ -36,13 +36,13 @@ filled_from old spared taken new k bytes e t w size =
     let from : IsTaken (reserved old 1) taken k = subst (λ s. IsTaken s taken k) e t in
     let blank : bytes_at taken k ≡ blank_page = ap (λ o. unwrap_or o []) from.blank in
     let whole : overwritten (bytes_at taken k) 0 bytes ≡ bytes =
-        overwritten-whole (bytes_at taken k) bytes (omega (arith, ap length blank, length-blank_page)) in
+    overwritten-whole (bytes_at taken k) bytes (omega (arith, ap length blank, length-blank_page)) in
     record {
       was_free = from.was_free;
       holds = w.holds ∙ ap Some whole;
       others = λ other apart. w.others other apart ∙ from.others other apart;
       in_use = w.in_use ∙ from.in_use;
-      most = w.most ∙ from.most
+      most = w.most ∙ from.most;
     }
 
 not_some : (o : Option (List ℕ)) → o ≡ None → IsSome o → ⊥
@@ -105,7 +105,7 @@ module _ (spot : BlockSpot) where
         in_use = s.in_use ∙ sym same;
         most = s.most;
         few = subst (λ n. n ≤ c.frames.cap) (sym same) s.few;
-        some = s.some
+        some = s.some;
       }
 
   pub keys-front : (p : Frames) (es : List (BlockSpot × ℕ)) (k : ℕ) → AreApart (keys es) → keys (shown p ((spot, k) ∷ remove_entry (is_of spot) es)) ≡ spot ∷ without (keys (shown p es)) spot
@@ -160,7 +160,7 @@ module _ (spot : BlockSpot) where
           in_use = put.in_use ∙ omega arith;
           most = put.most ∙ s.most;
           few = omega (arith, length-take n es);
-          some = s.some
+          some = s.some;
         }
 
     pub shown-put : IsPut (c.frames.cap - 1) → shown q ((spot, k) ∷ take (c.frames.cap - 1) c.frames.entries) ≡ (spot, bytes) ∷ take (c.frames.cap - 1) (shown c.pool c.frames.entries)
@@ -191,7 +191,7 @@ module _ (spot : BlockSpot) (c : Inside) (p : Frames) (k : ℕ) (bytes : List �
         frames = HaveFrames-kept c.pool p k (take n es) filled.others misses (HaveFrames-take c.pool n es s.frames);
         same = shown-kept c.pool p k (take n es) filled.others misses;
         in_use = omega (arith, filled.in_use, s.in_use, length-take n es, few);
-        most = filled.most
+        most = filled.most;
       }
 
   -- the last block left, and its frame can be given back
@@ -212,10 +212,10 @@ module _ (spot : BlockSpot) (c : Inside) (p : Frames) (k : ℕ) (bytes : List �
         holds = given.others k (λ h. apart (sym h)) ∙ filled.holds;
         misses = misses;
         frames = HaveFrames-kept p q e.1 (take n es) given.others left.1
-          (HaveFrames-kept c.pool p k (take n es) filled.others misses (HaveFrames-take c.pool n es s.frames));
+            (HaveFrames-kept c.pool p k (take n es) filled.others misses (HaveFrames-take c.pool n es s.frames));
         same = shown-kept p q e.1 (take n es) given.others left.1 ∙ shown-kept c.pool p k (take n es) filled.others misses;
         in_use = omega (arith, filled.in_use, given.in_use, s.in_use, s.few, length-take n es, within);
-        most = given.most ∙ filled.most
+        most = given.most ∙ filled.most;
       }
 
   -- the block couldn't be kept, and its frame was given back
@@ -223,12 +223,12 @@ module _ (spot : BlockSpot) (c : Inside) (p : Frames) (k : ℕ) (bytes : List �
   IsSound-back q given =
       record {
         frames = HaveFrames-kept p q k c.frames.entries given.others misses_all
-          (HaveFrames-kept c.pool p k c.frames.entries filled.others misses_all s.frames);
+            (HaveFrames-kept c.pool p k c.frames.entries filled.others misses_all s.frames);
         apart = s.apart;
         in_use = omega (arith, filled.in_use, given.in_use, s.in_use);
         most = given.most ∙ filled.most ∙ s.most;
         few = s.few;
-        some = s.some
+        some = s.some;
       }
 
   pub shown-back : (q : Frames) → IsGiven p q k → shown q c.frames.entries ≡ shown c.pool c.frames.entries

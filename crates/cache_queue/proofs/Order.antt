@@ -37,10 +37,10 @@ IsOrderly-hinted c depth spot o idle =
       ];
       demanded = o.demanded;
       apart = λ s h.
-        holds-append c.queue spot s
-        ∙ or_from (holds c.queue s) (same_block spot s) (o.apart s h)
+          holds-append c.queue spot s
+          ∙ or_from (holds c.queue s) (same_block spot s) (o.apart s h)
           (false_from_ne_true (same_block spot s)
-            (λ same. clash (is_demanded c.demanded spot) (subst (λ x. is_demanded c.demanded x ≡ true) (sym (same_from_same_block spot s same)) h) three.0))
+          (λ same. clash (is_demanded c.demanded spot) (subst (λ x. is_demanded c.demanded x ≡ true) (sym (same_from_same_block spot s same)) h) three.0));
     }
 
 -- ---- a need
@@ -51,7 +51,7 @@ IsOrderly-awaited c spot o absent =
       queue = AreApart-without c.queue spot o.queue;
       queued = λ s h. o.queued s (still (holds c.queue s) (holds (without c.queue spot) s) (without-other c.queue spot s) h);
       demanded = λ s h. sym (holds-at c.cached spot s h) ∙ absent;
-      apart = λ s h. sym (holds-at (without c.queue spot) spot s h) ∙ without-self c.queue spot
+      apart = λ s h. sym (holds-at (without c.queue spot) spot s h) ∙ without-self c.queue spot;
     }
 
 front_misses : (xs : List BlockSpot) (spot s : BlockSpot) → holds xs spot ≡ true → holds xs s ≡ false → holds (spot ∷ without xs spot) s ≡ false
@@ -66,7 +66,7 @@ IsOrderly-used c spot o found =
       queue = o.queue;
       queued = λ s h. front_misses c.cached spot s found (o.queued s h);
       demanded = λ s h. front_misses c.cached spot s found (o.demanded s h);
-      apart = o.apart
+      apart = o.apart;
     }
 
 -- ---- a finish
@@ -83,7 +83,7 @@ IsLanded-demanded c spot o e =
     record {
       order = record { queue = o.queue; queued = o.queued; demanded = λ s no. cc; apart = λ s no. cc };
       absent = o.demanded spot h;
-      apart = o.apart spot h
+      apart = o.apart spot h;
     }
 
 pub IsLanded-queued : (c : Cache) (spot : BlockSpot) (rest : List BlockSpot) → IsOrderly c → c.demanded ≡ None → c.queue ≡ spot ∷ rest → IsLanded (record c { queue = rest }) spot
@@ -96,10 +96,10 @@ IsLanded-queued c spot rest o idle e =
         queue = apart.1;
         queued = λ s h. queued s (or_right (same_block spot s) (holds rest s) h);
         demanded = λ s h. absurd (none s h);
-        apart = λ s h. absurd (none s h)
+        apart = λ s h. absurd (none s h);
       };
       absent = queued spot (ap (λ b. b || holds rest spot) (same_block-self spot));
-      apart = apart.0
+      apart = apart.0;
     }
 
 pub IsOrderly-kept : (c : Cache) (n : ℕ) (spot : BlockSpot) → IsOrderly c → holds c.queue spot ≡ false → c.demanded ≡ None → IsOrderly (record c { cached = spot ∷ take n c.cached })
@@ -107,11 +107,11 @@ IsOrderly-kept c n spot o apart idle =
     record {
       queue = o.queue;
       queued = λ s h.
-        or_from (same_block spot s) (holds (take n c.cached) s)
-        (false_from_ne_true (same_block spot s) (λ same. clash (holds c.queue s) h (sym (holds-at c.queue spot s same) ∙ apart)))
-        (holds-take n c.cached s (o.queued s h));
+          or_from (same_block spot s) (holds (take n c.cached) s)
+          (false_from_ne_true (same_block spot s) (λ same. clash (holds c.queue s) h (sym (holds-at c.queue spot s same) ∙ apart)))
+          (holds-take n c.cached s (o.queued s h));
       demanded = λ s h. absurd (clash (is_demanded c.demanded s) h (ap (λ d. is_demanded d s) idle));
-      apart = o.apart
+      apart = o.apart;
     }
 
 pub IsOrderly-with_block : (c : CacheState) (spot : BlockSpot) (bytes : List ℕ) → IsOrderly (lists c) → holds c.queue spot ≡ false → c.demanded ≡ None → IsOrderly (lists (record c { blocks = with_block c.blocks spot bytes }))

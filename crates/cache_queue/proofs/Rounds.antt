@@ -76,4 +76,4 @@ module _ (old items : List BlockSpot) (i : ℕ) (spot x : BlockSpot) (inv : item
         let gone : without (x ∷ []) spot ≡ [] = rw same refl in
         rest_is
         ∙ ap (λ ys. drop (i + 1) old ++ ys)
-          (sym (one_more ∙ ap (λ ys. without (take i old) spot ++ ys) gone ∙ append-nil (without (take i old) spot)))
+        (sym (one_more ∙ ap (λ ys. without (take i old) spot ++ ys) gone ∙ append-nil (without (take i old) spot)))

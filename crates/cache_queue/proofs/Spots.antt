@@ -14,10 +14,9 @@ use Rattle.cache_queue.specs.Orders.{AreApart}
 pub Decides-same_block : (x y : BlockSpot) → Decides (same_block x y) (x ≡ y)
 Decides-same_block x y =
     let parts : Decides (same_block x y) ((x.block ≡ y.block) × (x.name ≡ y.name)) =
-        Decides-and (eqb x.block y.block) (bytes_eq x.name y.name) (Decides-eqb x.block y.block) (bytes_eq-Decides x.name y.name) in
-    (
+    Decides-and (eqb x.block y.block) (bytes_eq x.name y.name) (Decides-eqb x.block y.block) (bytes_eq-Decides x.name y.name) in (
       λ same. λ i. record { name = (parts.0 same).1 i; block = (parts.0 same).0 i },
-      λ e. parts.1 (ap (λ s. s.block) e, ap (λ s. s.name) e)
+      λ e. parts.1 (ap (λ s. s.block) e, ap (λ s. s.name) e),
     )
 
 pub same_from_same_block : (x y : BlockSpot) → same_block x y ≡ true → x ≡ y
@@ -30,10 +29,9 @@ same_block-self x = (Decides-same_block x x).1 refl
 pub test_is : (x y : BlockSpot) → (bytes_eq x.name y.name && eqb x.block y.block) ≡ same_block y x
 test_is x y =
     same_from_decides _ _
-    (Decides-and (bytes_eq x.name y.name) (eqb x.block y.block) (bytes_eq-Decides x.name y.name) (Decides-eqb x.block y.block))
-    (
+    (Decides-and (bytes_eq x.name y.name) (eqb x.block y.block) (bytes_eq-Decides x.name y.name) (Decides-eqb x.block y.block)) (
       λ same. let e : y ≡ x = same_from_same_block y x same in (sym (ap (λ s. s.name) e), sym (ap (λ s. s.block) e)),
-      λ both. (Decides-same_block y x).1 (λ i. record { name = sym both.0 i; block = sym both.1 i })
+      λ both. (Decides-same_block y x).1 (λ i. record { name = sym both.0 i; block = sym both.1 i }),
     )
 
 -- ---- holds
@@ -105,7 +103,7 @@ AreApart-append [] s h absent = (refl, tt)
 AreApart-append (x ∷ xs) s h absent =
     let parts = or_parts (same_block x s) (holds xs s) absent in
     let other : same_block s x ≡ false =
-        false_from_ne_true (same_block s x)
-        (λ same. let e : s ≡ x = same_from_same_block s x same in
-          let self : same_block x s ≡ true = (Decides-same_block x s).1 (sym e) in cc) in
+    false_from_ne_true (same_block s x)
+    (λ same. let e : s ≡ x = same_from_same_block s x same in
+    let self : same_block x s ≡ true = (Decides-same_block x s).1 (sym e) in cc) in
     (holds-append xs s x ∙ or_from (holds xs x) (same_block s x) h.0 other, AreApart-append xs s h.1 parts.1)

@@ -42,7 +42,7 @@ TrueTo-with_block files c spot bytes is true_to other =
     elim (cases_Bool (same_block spot other)) [
       | inl same ↦ rw same (is ∙ ap (λ s. padded_block (files s.name) s.block) (same_from_same_block spot other same))
       | inr apart ↦ rw apart
-        (if_some (lookup (λ x. same_block x other) (take (c.most - 1) c.entries)) P
+          (if_some (lookup (λ x. same_block x other) (take (c.most - 1) c.entries)) P
           (λ x found. at_some (lookup (λ x. same_block x other) c.entries) P x (found_among (λ x. same_block x other) (c.most - 1) c.entries x found) (true_to other)))
     ]
 

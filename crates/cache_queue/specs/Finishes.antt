@@ -41,7 +41,7 @@ with_finished c (Fault spot) bytes = c
 -- a block that was fetched was cached, or lost
 abbrev pub IsKept : CacheState → BlockSpot → List ℕ → Finished → CacheState → Type 0
 IsKept old spot bytes (Put x) new = (x ≡ spot) × (lists new ≡ kept old.blocks.most (lists old) spot)
-    × (new.blocks ≡ with_block old.blocks spot bytes) × (new.depth ≡ old.depth)
+    × (new.blocks ≡ with_block old.blocks spot bytes) × (new.demanded ≡ old.demanded) × (new.depth ≡ old.depth)
 IsKept old spot bytes (Lost x) new = (x ≡ spot) × (new ≡ old)
 IsKept old spot bytes Nothing new = ⊥
 IsKept old spot bytes (Dropped x) new = ⊥

@@ -73,6 +73,7 @@ impl Cache {
         ensures ready { (result ≡ Need.Ready) ↔ (holds (lists self.old).cached spot ≡ true) }
         ensures bytes { result ≡ Need.Ready → bytes_of self.old.blocks spot ≡ Some into.new }
         ensures wait { result ≡ Need.Wait → into.new ≡ into.old }
+        ensures idle { result ≡ Need.Ready → self.new.demanded ≡ None }
         ensures lists { lists self.new ≡ needed (lists self.old) spot }
         ensures same { SameBytes self.old.blocks self.new.blocks }
         ensures most { self.new.blocks.most ≡ self.old.blocks.most }
@@ -89,6 +90,7 @@ impl Cache {
     /// Queues a block to be fetched, unless it is cached, queued or demanded, or the queue is full.
     pub fn hint(&mut self, spot: BlockSpot)
         ensures lists { lists self.new ≡ hinted self.old.depth (lists self.old) spot }
+        ensures demanded { self.new.demanded ≡ self.old.demanded }
         ensures blocks { self.new.blocks ≡ self.old.blocks }
         ensures depth { self.new.depth ≡ self.old.depth }
     {

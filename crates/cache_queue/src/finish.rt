@@ -51,6 +51,7 @@ impl Cache {
         ensures block { IsOf (lists self.old) result }
         ensures lists { lists self.new ≡ finished self.old.blocks.most (lists self.old) result }
         ensures blocks { self.new.blocks ≡ with_finished self.old.blocks result into.new }
+        ensures idle { self.new.demanded ≡ None }
         ensures depth { self.new.depth ≡ self.old.depth }
         ensures told { IfSome (D.state store.old).files (λ files. FinishTells files result into.new) }
         ensures keeps { KeepsFiles (D.state store.old) (D.state store.new) }

@@ -6,6 +6,8 @@ mod blocks;
 mod cache;
 mod finish;
 mod queue;
+#[cfg(test)]
+mod tests;
 
 pub use cache::{Cache, Need};
 pub use finish::Finished;

@@ -61,13 +61,13 @@ returns-clause-bytes c =
     λ _. rw
     (← c.self.view_is)
     (
-      lookup-shown
-      c.self.inside.pool
-      c.self.inside.frames.entries
-      c.args.spot.now
-      (Some c.in-Some.frame.now)
-      (sym c.in-Some.ensures.value)
-      ∙ ap Some (sym (c.copy_from_slice.ensures.after ∙ c.bytes.ensures.value))
+    lookup-shown
+    c.self.inside.pool
+    c.self.inside.frames.entries
+    c.args.spot.now
+    (Some c.in-Some.frame.now)
+    (sym c.in-Some.ensures.value)
+    ∙ ap Some (sym (c.copy_from_slice.ensures.after ∙ c.bytes.ensures.value))
     )
 
 pub invariant_of-self-2 : goal.invariant_of-self-2

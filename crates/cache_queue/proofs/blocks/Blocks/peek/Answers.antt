@@ -23,13 +23,13 @@ returns-in-Some-clause-bytes c =
     λ _. rw
     (← c.self.view_is)
     (
-      lookup-shown
-      c.self.inside.pool
-      c.self.inside.frames.entries
-      c.args.spot.now
-      (Some c.in-Some.frame.now)
-      (sym c.in-Some.ensures)
-      ∙ ap Some (sym (c.copy_from_slice.ensures.after ∙ c.bytes.ensures.value))
+    lookup-shown
+    c.self.inside.pool
+    c.self.inside.frames.entries
+    c.args.spot.now
+    (Some c.in-Some.frame.now)
+    (sym c.in-Some.ensures)
+    ∙ ap Some (sym (c.copy_from_slice.ensures.after ∙ c.bytes.ensures.value))
     )
 
 pub returns-in-None-clause-found : goal.returns-in-None-clause-found

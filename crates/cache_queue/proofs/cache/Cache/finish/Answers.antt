@@ -17,11 +17,11 @@ returns-then-fetch_block-clause-true_to g c =
     c.keep.result
     c.keep.new.self
     (at_some
-      (g.D.Store.state c.args.store.now).files
-      (λ (all : Files). c.fetch_block.new.into ≡ padded_block (all c.in-Some.spot.name) c.in-Some.spot.block)
-      files
-      told
-      (c.if-fetch_block.ensures.told refl))
+    (g.D.Store.state c.args.store.now).files
+    (λ (all : Files). c.fetch_block.new.into ≡ padded_block (all c.in-Some.spot.name) c.in-Some.spot.block)
+    files
+    told
+    (c.if-fetch_block.ensures.told refl))
     c.keep.ensures
     (subst (λ (s : CacheState). TrueTo files s.blocks) (sym c.self.view_is) h)
 
@@ -39,11 +39,11 @@ returns-then-fetch_block-2-clause-true_to g c =
     c.keep-then-fetch_block-2.result
     c.keep-then-fetch_block-2.new.self
     (at_some
-      (g.D.Store.state c.args.store.now).files
-      (λ (all : Files). c.fetch_block-in-Some-pop_front.new.into ≡ padded_block (all c.in-Some-pop_front.spot.name) c.in-Some-pop_front.spot.block)
-      files
-      told
-      (c.if-fetch_block-2.ensures.told refl))
+    (g.D.Store.state c.args.store.now).files
+    (λ (all : Files). c.fetch_block-in-Some-pop_front.new.into ≡ padded_block (all c.in-Some-pop_front.spot.name) c.in-Some-pop_front.spot.block)
+    files
+    told
+    (c.if-fetch_block-2.ensures.told refl))
     c.keep-then-fetch_block-2.ensures
     (subst (λ (s : CacheState). TrueTo files s.blocks) (sym c.self.view_is) h)
 

@@ -11,17 +11,17 @@ use Rattle.cache_queue.proofs.cache.Cache.keep.Goals.{in-Ok, in-Err}
 pub invariant_of-self : goal.invariant_of-self
 invariant_of-self c = elim c.match-keep.branch [
   | in-Ok w ↦
-    subst
-    (λ (b : CachedBlocks). IsOrderly (lists (record { blocks = b; queue = c.self.inside.queue.items; demanded = c.self.inside.demanded; depth = c.self.inside.queue.capacity })))
-    (sym w.in-Ok.ensures.ok)
-    (IsOrderly-with_block (state_of c.self.inside) c.args.spot.now c.args.bytes.now c.self.invariant
+      subst
+      (λ (b : CachedBlocks). IsOrderly (lists (record { blocks = b; queue = c.self.inside.queue.items; demanded = c.self.inside.demanded; depth = c.self.inside.queue.capacity })))
+      (sym w.in-Ok.ensures.ok)
+      (IsOrderly-with_block (state_of c.self.inside) c.args.spot.now c.args.bytes.now c.self.invariant
       (subst (λ (s : CacheState). holds s.queue c.args.spot.now ≡ false) (sym c.self.view_is) c.requires.apart)
       (subst (λ (s : CacheState). s.demanded ≡ None) (sym c.self.view_is) c.requires.idle))
   | in-Err w ↦
-    subst
-    (λ (b : CachedBlocks). IsOrderly (lists (record { blocks = b; queue = c.self.inside.queue.items; demanded = c.self.inside.demanded; depth = c.self.inside.queue.capacity })))
-    (sym w.in-Err.ensures.err)
-    c.self.invariant
+      subst
+      (λ (b : CachedBlocks). IsOrderly (lists (record { blocks = b; queue = c.self.inside.queue.items; demanded = c.self.inside.demanded; depth = c.self.inside.queue.capacity })))
+      (sym w.in-Err.ensures.err)
+      c.self.invariant
 ]
 
 pub returns : goal.returns
@@ -31,22 +31,21 @@ returns c =
     c.self.view_is
     (elim c.match-keep.branch [
       | in-Ok w ↦
-        subst
-        (λ r. IsKept (state_of c.self.inside) c.args.spot.now c.args.bytes.now r (record { blocks = c.keep.new.self; queue = c.self.inside.queue.items; demanded = c.self.inside.demanded; depth = c.self.inside.queue.capacity }))
-        (sym w.result-is)
-        (
-          refl,
-          ap (λ (b : CachedBlocks). lists (record { blocks = b; queue = c.self.inside.queue.items; demanded = c.self.inside.demanded; depth = c.self.inside.queue.capacity })) w.in-Ok.ensures.ok
-          ∙ lists-with_block (state_of c.self.inside) c.args.spot.now c.args.bytes.now,
-          w.in-Ok.ensures.ok,
-          refl
-        )
+          subst
+          (λ r. IsKept (state_of c.self.inside) c.args.spot.now c.args.bytes.now r (record { blocks = c.keep.new.self; queue = c.self.inside.queue.items; demanded = c.self.inside.demanded; depth = c.self.inside.queue.capacity }))
+          (sym w.result-is) (
+            refl,
+            ap (λ (b : CachedBlocks). lists (record { blocks = b; queue = c.self.inside.queue.items; demanded = c.self.inside.demanded; depth = c.self.inside.queue.capacity })) w.in-Ok.ensures.ok
+                ∙ lists-with_block (state_of c.self.inside) c.args.spot.now c.args.bytes.now,
+            w.in-Ok.ensures.ok,
+            refl,
+            refl,
+          )
       | in-Err w ↦
-        subst
-        (λ r. IsKept (state_of c.self.inside) c.args.spot.now c.args.bytes.now r (record { blocks = c.keep.new.self; queue = c.self.inside.queue.items; demanded = c.self.inside.demanded; depth = c.self.inside.queue.capacity }))
-        (sym w.result-is)
-        (
-          refl,
-          ap (λ (b : CachedBlocks). record { blocks = b; queue = c.self.inside.queue.items; demanded = c.self.inside.demanded; depth = c.self.inside.queue.capacity }) w.in-Err.ensures.err
-        )
+          subst
+          (λ r. IsKept (state_of c.self.inside) c.args.spot.now c.args.bytes.now r (record { blocks = c.keep.new.self; queue = c.self.inside.queue.items; demanded = c.self.inside.demanded; depth = c.self.inside.queue.capacity }))
+          (sym w.result-is) (
+            refl,
+            ap (λ (b : CachedBlocks). record { blocks = b; queue = c.self.inside.queue.items; demanded = c.self.inside.demanded; depth = c.self.inside.queue.capacity }) w.in-Err.ensures.err,
+          )
     ])

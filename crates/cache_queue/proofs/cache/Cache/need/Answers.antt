@@ -21,6 +21,6 @@ invariant_of-self-2 c =
     (λ (b : CachedBlocks). IsOrderly (record { cached = keys_of b; queue = c.unqueue.new.queue.items; demanded = Some c.args.spot }))
     (sym (c.if-get.ensures.absent refl).0)
     (subst
-      (λ (q : Buffer BlockSpot). IsOrderly (record { cached = keys_of c.self.inside.blocks; queue = q.items; demanded = Some c.args.spot }))
-      (sym c.unqueue.ensures)
-      before)
+    (λ (q : Buffer BlockSpot). IsOrderly (record { cached = keys_of c.self.inside.blocks; queue = q.items; demanded = Some c.args.spot }))
+    (sym c.unqueue.ensures)
+    before)
