@@ -1,0 +1,10 @@
+//! The profile of accepted executables: static RV64IM programs in ELF64 files.
+//!
+//! [`read_as`] gives the image of a file, or the first of seventeen reasons to refuse it.
+#![tactic(auto)]
+
+mod fields;
+mod header;
+mod refusal;
+
+pub use refusal::Refusal;
