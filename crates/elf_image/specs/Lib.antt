@@ -1,3 +1,5 @@
 pub mod Fields
 pub mod Refusals
 pub mod Header
+pub mod Segments
+pub mod Scan

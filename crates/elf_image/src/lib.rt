@@ -6,5 +6,8 @@
 mod fields;
 mod header;
 mod refusal;
+mod scan;
+mod segments;
 
 pub use refusal::Refusal;
+pub use segments::Segment;
