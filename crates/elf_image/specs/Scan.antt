@@ -1,10 +1,12 @@
 -- What one pass over the program header table keeps (this project's own). It is no part of the profile: `IsScan` ties it to that.
-use Rattle.std.specs.Prelude.{◌≡◌, ℕ, ◌+◌, ◌&&◌, ◌||◌, ◌≤◌, Bool, nat_lt, max, cond, List, length, find, count_by, Option, Some}
+use Rattle.std.specs.Prelude.{◌≡◌, ℕ, ◌+◌, ◌&&◌, ◌||◌, ◌==◌, ◌≤◌, Bool, not, nat_lt, max, cond, if◌then◌else◌, List, length, find, count_by, Option, Some, None}
 use Rattle.std.specs.Option.{option_or}
 use Rattle.std.specs.List.{list_any}
 use Rattle.elf_image.specs.declared.segments.ProgramHeader.{ProgramHeader}
 use Rattle.elf_image.specs.declared.segments.Segment.{Segment}
 use Rattle.elf_image.specs.declared.scan.Scan.{Scan}
+use Rattle.elf_image.specs.declared.refusal.Refusal.{Refusal}
+use Rattle.elf_image.specs.declared.refusal.Refusal.TheVariants.{Dynamic, Already, Segment as Misplaced, NoText}
 use Rattle.elf_image.specs.Segments.{first_entries, is_dynamic, is_record, is_loaded, segment_of, segments_in, end_of, highest_end, is_misplaced, are_misplaced, is_code}
 
 -- the scan after one more entry
@@ -29,3 +31,12 @@ pub record IsScan (limit : ℕ) (bytes : List ℕ) (n : ℕ) (scan : Scan) : Typ
   pub code_segments : scan.code_segments ≡ count_by is_code (segments_in (first_entries n bytes))
   pub few : scan.code_segments ≤ n
   pub code : scan.code ≡ find is_code (segments_in (first_entries n bytes))
+
+-- the first of the reasons 11 to 14 that a scan of the whole table shows
+abbrev pub scan_refusal : Scan → Option Refusal
+scan_refusal scan =
+    if scan.dynamic then Some Dynamic
+    else if scan.rewritten then Some Already
+    else if scan.misplaced then Some Misplaced
+    else if not (scan.code_segments == 1) then Some NoText
+    else None

@@ -5,9 +5,12 @@
 
 mod fields;
 mod header;
+mod image;
 mod refusal;
 mod scan;
+mod sections;
 mod segments;
 
+pub use image::{Image, ReadFault};
 pub use refusal::Refusal;
 pub use segments::Segment;

@@ -1,10 +1,11 @@
 //! One pass over the program header table.
 
 ghost use Rattle.std.specs.Prelude.{◌≡◌, ◌+◌, ◌<◌, ◌≤◌, length, ◌^◌};
-ghost use Rattle.elf_image.specs.Scan.{IsScan, seen};
+ghost use Rattle.elf_image.specs.Scan.{IsScan, scan_refusal, seen};
 ghost use Rattle.elf_image.specs.Header.{HasTable, file_header};
 
 use crate::header::FileHeader;
+use crate::refusal::Refusal;
 use crate::segments::{ProgramHeader, Segment};
 
 /// What the entries seen so far show.
@@ -55,6 +56,23 @@ impl Scan {
             } else {
                 self.code
             },
+        }
+    }
+
+    /// The first reason to refuse that the scan of the whole table shows.
+    pub(crate) fn refusal(&self) -> Option<Refusal>
+        ensures { result ≡ scan_refusal self.now }
+    {
+        if self.dynamic {
+            Some(Refusal::Dynamic)
+        } else if self.rewritten {
+            Some(Refusal::Already)
+        } else if self.misplaced {
+            Some(Refusal::Segment)
+        } else if self.code_segments != 1 {
+            Some(Refusal::NoText)
+        } else {
+            None
         }
     }
 
