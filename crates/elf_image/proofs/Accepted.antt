@@ -1,10 +1,11 @@
 -- What follows where no reason to refuse a file holds.
-use Rattle.std.proofs.Common.{◌≡◌, ℕ, zero, suc, ◌+◌, ◌-◌, ◌*◌, ◌/◌, ◌%◌, ◌==◌, ◌<◌, ◌≤◌, ◌&&◌, ◌||◌, Bool, true, false, not, nat_lt, nat_le, cond, List, [], ◌∷◌, ◌++◌, length, find, count_by, All, AllPairs, IsTrue, slice_index_or, Option, Some, None, Result, Ok, Err, refl, sym, ap, subst, arith, ◌∙◌, length-append}
+use Rattle.std.proofs.Common.{◌≡◌, ℕ, zero, suc, ◌+◌, ◌-◌, ◌*◌, ◌/◌, ◌%◌, ◌^◌, ◌==◌, ◌<◌, ◌≤◌, ◌&&◌, ◌||◌, Bool, true, false, not, nat_lt, nat_le, cond, List, [], ◌∷◌, ◌++◌, length, find, count_by, All, AllPairs, IsTrue, slice_index_or, Option, Some, None, Result, Ok, Err, refl, sym, ap, subst, arith, ◌∙◌, length-append}
 use Rattle.std.specs.List.{list_any}
 use Rattle.std.proofs.lemmas.Bool.Decides.{nat_tests}
 use Rattle.spec_base.specs.declared.layout.Version.{Version}
 use Rattle.spec_base.specs.declared.layout.Version.TheVariants.{One, Two}
 use Rattle.spec_base.specs.Layout.{image_limit, is_lawful}
+use Rattle.elf_image.specs.declared.header.FileHeader.{FileHeader}
 use Rattle.elf_image.specs.declared.segments.ProgramHeader.{ProgramHeader}
 use Rattle.elf_image.specs.declared.segments.Segment.{Segment}
 use Rattle.elf_image.specs.declared.scan.Scan.{Scan}
@@ -12,19 +13,36 @@ use Rattle.elf_image.specs.declared.sections.Span.{Span}
 use Rattle.elf_image.specs.declared.refusal.Refusal.{Refusal}
 use Rattle.elf_image.specs.declared.refusal.Refusal.TheVariants.{TooLong, Short, Magic, Class, ByteOrder, Version as OtherVersion, Kind, Machine, Flags, HeaderTable, Dynamic, Already, Segment as Misplaced, NoText, Sections, Text, Entry}
 use Rattle.elf_image.specs.declared.image.Image.{Image}
+use Rattle.elf_image.specs.declared.image.Outline.{Outline}
 use Rattle.elf_image.specs.Header.{file_header, has_magic, ei_class, ei_data, ei_version, holds_table, header_refusal, HasTable}
-use Rattle.elf_image.specs.Segments.{entry_at, first_entries, entries, is_dynamic, is_record, is_loaded, segment_of, segments_in, end_of, highest_end, is_misplaced, starts_early, is_code, are_misplaced, entries_refusal}
+use Rattle.elf_image.specs.Segments.{entry_at, first_entries, entries, is_dynamic, is_record, is_loaded, segment_of, segments_in, piece, end_of, highest_end, is_misplaced, starts_early, is_code, are_misplaced, entries_refusal}
 use Rattle.elf_image.specs.Sections.{holds_sections, text_span, is_text_of, is_entry_of, text_refusal}
-use Rattle.elf_image.specs.Scan.{IsScan, scan_refusal}
+use Rattle.elf_image.specs.Scan.{IsScan, only, scan_answer, answered}
 use Rattle.elf_image.specs.Profile.{segments_of, code_of, otherwise, first_refusal, rounded_up, image_of, judged, profile}
-use Rattle.elf_image.specs.Image.{IsPlaced, IsTextOf, IsImage}
-use Rattle.elf_image.proofs.SegmentLemmas.{piece, segments_in-more}
+use Rattle.elf_image.specs.Image.{IsPlaced, IsTextOf, IsImage, IsOutline}
+use Rattle.elf_image.proofs.SegmentLemmas.{segments_in-more, count-none}
 use Rattle.elf_image.proofs.Tests.{past, otherwise-none, not-false, and-true, or-false-both, none-at, find-passes, find-fails}
 
+one-is : (b : Bool) (s : Segment) → cond b (Ok s) (Err NoText) ≡ answered (cond (not b) (Some NoText) None) (Some s)
+one-is true s = refl
+one-is false s = refl
+
+chain-is : (a b c : Bool) (code : Option Segment) (n : ℕ) → (code ≡ None → n ≡ 0)
+    → cond a (Err Dynamic) (cond b (Err Already) (cond c (Err Misplaced) (only code n)))
+      ≡ answered (cond a (Some Dynamic) (cond b (Some Already) (cond c (Some Misplaced) (cond (not (n == 1)) (Some NoText) None)))) code
+chain-is true b c code n h = refl
+chain-is false true c code n h = refl
+chain-is false false true code n h = refl
+chain-is false false false (Some s) n h = one-is (n == 1) s
+chain-is false false false None n h = rw (h refl) refl
+
 -- the scan of the whole table shows what its entries show
-pub scan_refusal-is : (bytes : List ℕ) (version : Version) (scan : Scan)
-    → IsScan (image_limit version) bytes (file_header bytes).e_phnum scan → scan_refusal scan ≡ entries_refusal bytes version
-scan_refusal-is bytes version scan h = rw (h.dynamic, h.rewritten, h.misplaced, h.code_segments) refl
+pub scan_answer-is : (bytes : List ℕ) (version : Version) (scan : Scan)
+    → IsScan (image_limit version) bytes (file_header bytes).e_phnum scan
+    → scan_answer scan ≡ answered (entries_refusal bytes version) (code_of (segments_of bytes))
+scan_answer-is bytes version scan h =
+    rw (h.dynamic, h.rewritten, h.misplaced, h.code_segments, h.code)
+      (chain-is _ _ _ (code_of (segments_of bytes)) (count_by is_code (segments_of bytes)) (count-none (segments_of bytes)))
 
 -- a test of an order, read as the order
 at-most : (a b : ℕ) → nat_lt a b ≡ false → b ≤ a
@@ -276,3 +294,131 @@ pub IsImage-from_profile : (bytes : List ℕ) (version : Version) (image : Image
 IsImage-from_profile bytes version image given =
     let same = judged-ok (first_refusal bytes version) (image_of bytes) image given in
     subst (λ (i : Image). IsImage bytes version i) same.1 (IsImage-from_none bytes version same.0)
+
+-- ## The order of the groups
+
+pub refused-by_header : (bytes : List ℕ) (version : Version) (e : Refusal) → header_refusal bytes ≡ Some e → first_refusal bytes version ≡ Some e
+unfolding first_refusal
+refused-by_header bytes version e h = rw h refl
+
+pub refused-by_entries : (bytes : List ℕ) (version : Version) (e : Refusal) → header_refusal bytes ≡ None → entries_refusal bytes version ≡ Some e
+    → first_refusal bytes version ≡ Some e
+unfolding first_refusal
+refused-by_entries bytes version e none h = rw (none, h) refl
+
+pub refused-by_text : (bytes : List ℕ) (version : Version) (answer : Option Refusal) → header_refusal bytes ≡ None → entries_refusal bytes version ≡ None
+    → text_refusal bytes (code_of (segments_of bytes)) ≡ answer → first_refusal bytes version ≡ answer
+unfolding first_refusal
+refused-by_text bytes version answer none later h = rw (none, later, h) refl
+
+one-of-none : (n : ℕ) → n ≡ 0 → cond (not (n == 1)) (Some NoText) None ≡ None → ⊥
+one-of-none n is h = absurd (let some : Some NoText ≡ None = rw is at h in cc)
+
+-- where the entries give no reason, there is an executable segment
+has-code : (bytes : List ℕ) (version : Version) → entries_refusal bytes version ≡ None → code_of (segments_of bytes) ≡ None → ⊥
+has-code bytes version none missing =
+    let e1 = past _ Dynamic _ none in
+    let e2 = past _ Already _ e1.1 in
+    one-of-none (count_by is_code (segments_of bytes)) (count-none (segments_of bytes) missing) (past _ Misplaced _ e2.1).1
+
+answered-err : (r : Option Refusal) (code : Option Segment) (e : Refusal) → (r ≡ None → code ≡ None → ⊥) → answered r code ≡ Err e → r ≡ Some e
+answered-err (Some f) code e some h = cc
+answered-err None (Some s) e some h = absurd (cc)
+answered-err None None e some h = absurd (some refl refl)
+
+answered-ok : (r : Option Refusal) (code : Option Segment) (s : Segment) → answered r code ≡ Ok s → (r ≡ None) × (code ≡ Some s)
+answered-ok (Some f) code s h = absurd (cc)
+answered-ok None (Some t) s h = (refl, cc)
+answered-ok None None s h = absurd (cc)
+
+pub scan-refuses : (bytes : List ℕ) (version : Version) (scan : Scan) (e : Refusal)
+    → IsScan (image_limit version) bytes (file_header bytes).e_phnum scan → Err e ≡ scan_answer scan → entries_refusal bytes version ≡ Some e
+scan-refuses bytes version scan e h is =
+    answered-err (entries_refusal bytes version) (code_of (segments_of bytes)) e (has-code bytes version)
+      (sym (scan_answer-is bytes version scan h) ∙ sym is)
+
+pub scan-finds : (bytes : List ℕ) (version : Version) (scan : Scan) (s : Segment)
+    → IsScan (image_limit version) bytes (file_header bytes).e_phnum scan → Ok s ≡ scan_answer scan
+    → (entries_refusal bytes version ≡ None) × (code_of (segments_of bytes) ≡ Some s)
+scan-finds bytes version scan s h is =
+    answered-ok (entries_refusal bytes version) (code_of (segments_of bytes)) s (sym (scan_answer-is bytes version scan h) ∙ sym is)
+
+-- where neither the header nor the entries give a reason, the text decides
+pub text-decides : (bytes : List ℕ) (version : Version) (scan : Scan) (s : Segment) (r : Option Refusal)
+    → header_refusal bytes ≡ None → IsScan (image_limit version) bytes (file_header bytes).e_phnum scan → Ok s ≡ scan_answer scan
+    → text_refusal bytes (Some s) ≡ r → first_refusal bytes version ≡ r
+text-decides bytes version scan s r none h is given =
+    let found = scan-finds bytes version scan s h is in
+    refused-by_text bytes version r none found.0 (ap (text_refusal bytes) found.1 ∙ given)
+
+highest-fits : (version : Version) (n : ℕ) → rounded_up n ≤ image_limit version → n < 2 ^ 32
+highest-fits One n h = omega arith
+highest-fits Two n h = omega arith
+
+limit-fits : (version : Version) (n : ℕ) → n ≤ image_limit version → n < 2 ^ 32
+limit-fits One n h = omega arith
+limit-fits Two n h = omega arith
+
+-- the numbers of an accepted file are small
+pub Fits-from_none : (bytes : List ℕ) (version : Version) → first_refusal bytes version ≡ None
+    → ((text_span bytes (code_of (segments_of bytes))).end < 2 ^ 32) × (highest_end (segments_of bytes) < 2 ^ 32)
+unfolding image_of
+Fits-from_none bytes version none =
+    let h = IsImage-from_none bytes version none in
+    (limit-fits version (text_span bytes (code_of (segments_of bytes))).end h.text_below,
+     highest-fits version (highest_end (segments_of bytes)) h.break_below)
+
+-- a scan by the numbers that the code has
+pub IsScan-at : (limit : ℕ) (bytes : List ℕ) (version : Version) (header : FileHeader) (scan : Scan) → limit ≡ image_limit version
+    → header ≡ file_header bytes → IsScan limit bytes header.e_phnum scan → IsScan (image_limit version) bytes (file_header bytes).e_phnum scan
+IsScan-at limit bytes version header scan same same_header h =
+    let count : header.e_phnum ≡ (file_header bytes).e_phnum = ap (λ x. x.e_phnum) same_header in
+    subst (λ (n : ℕ). IsScan (image_limit version) bytes n scan) count (subst (λ (l : ℕ). IsScan l bytes header.e_phnum scan) same h)
+
+-- the same by what a scan and the text showed
+pub Fits-from_scan : (bytes : List ℕ) (version : Version) (scan : Scan) (s : Segment) (t : Span)
+    → header_refusal bytes ≡ None → IsScan (image_limit version) bytes (file_header bytes).e_phnum scan → Ok s ≡ scan_answer scan
+    → text_refusal bytes (Some s) ≡ None → t ≡ text_span bytes (Some s) → (t.end < 2 ^ 32) × (scan.reached < 2 ^ 32)
+Fits-from_scan bytes version scan s t none h is given span =
+    let found = scan-finds bytes version scan s h is in
+    let fits = Fits-from_none bytes version (text-decides bytes version scan s None none h is given) in
+    (rw (span, ← found.1) fits.0, rw h.reached fits.1)
+
+pub IsOutline-from_scan : (bytes : List ℕ) (version : Version) (scan : Scan) (s : Segment) (t : Span) (outline : Outline)
+    → HasTable bytes → header_refusal bytes ≡ None → IsScan (image_limit version) bytes (file_header bytes).e_phnum scan → Ok s ≡ scan_answer scan
+    → text_refusal bytes (Some s) ≡ None → t ≡ text_span bytes (Some s)
+    → outline.header ≡ file_header bytes → outline.text_start ≡ t.start → outline.text_end ≡ t.end → outline.break_start ≡ rounded_up scan.reached
+    → IsOutline bytes version outline
+IsOutline-from_scan bytes version scan s t outline table none h is given span header start end break =
+    let found = scan-finds bytes version scan s h is in
+    let same : t ≡ text_span bytes (code_of (segments_of bytes)) = span ∙ ap (text_span bytes) (sym found.1) in
+    record {
+      table = table;
+      accepted = text-decides bytes version scan s None none h is given;
+      header = header;
+      text_start = start ∙ ap (λ u. u.start) same;
+      text_end = end ∙ ap (λ u. u.end) same;
+      break_start = break ∙ ap rounded_up h.reached;
+    }
+
+-- the image that is made of an outline and the segments
+image-is : (bytes : List ℕ) (version : Version) (outline : Outline) (image : Image) → IsOutline bytes version outline
+    → image.entry ≡ outline.header.e_entry → image.flags ≡ outline.header.e_flags → image.segments ≡ segments_of bytes
+    → image.text_start ≡ outline.text_start → image.text_end ≡ outline.text_end → image.break_start ≡ outline.break_start
+    → image ≡ image_of bytes
+unfolding image_of
+image-is bytes version outline image h entry flags segments start end break = λ i. record {
+  entry = (entry ∙ ap (λ x. x.e_entry) h.header) i;
+  flags = (flags ∙ ap (λ x. x.e_flags) h.header) i;
+  segments = segments i;
+  text_start = (start ∙ h.text_start) i;
+  text_end = (end ∙ h.text_end) i;
+  break_start = (break ∙ h.break_start) i;
+}
+
+pub profile-is : (bytes : List ℕ) (version : Version) (outline : Outline) (image : Image) → IsOutline bytes version outline
+    → image.entry ≡ outline.header.e_entry → image.flags ≡ outline.header.e_flags → image.segments ≡ segments_of bytes
+    → image.text_start ≡ outline.text_start → image.text_end ≡ outline.text_end → image.break_start ≡ outline.break_start
+    → profile bytes version ≡ Ok image
+profile-is bytes version outline image h entry flags segments start end break =
+    rw (image-is bytes version outline image h entry flags segments start end break, h.accepted) refl

@@ -5,3 +5,4 @@ pub mod SectionLemmas
 pub mod Tests
 
 pub mod Accepted
+pub mod ImageLemmas

@@ -9,7 +9,7 @@ use Rattle.elf_image.specs.declared.segments.Segment.{Segment}
 use Rattle.elf_image.specs.declared.scan.Scan.{Scan}
 use Rattle.elf_image.specs.Segments.{entry_at, first_entries, is_dynamic, is_record, is_loaded, segment_of, segments_in, end_of, highest_end, is_misplaced, are_misplaced, is_code}
 use Rattle.elf_image.specs.Scan.{seen, IsScan}
-use Rattle.elf_image.proofs.SegmentLemmas.{piece, segments_in-more, are_misplaced-more, highest_end-more, count-more, find-more}
+use Rattle.elf_image.proofs.SegmentLemmas.{segments_in-more, are_misplaced-more, highest_end-more, count-more, find-more}
 
 any-more : (p : ProgramHeader → Bool) (es : List ProgramHeader) (e : ProgramHeader) → list_any p (es ++ e ∷ []) ≡ (list_any p es || p e)
 any-more p es e = rw (list_any-append p es (e ∷ []), or-false (p e)) refl

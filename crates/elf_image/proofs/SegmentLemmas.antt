@@ -10,12 +10,7 @@ use Rattle.std.proofs.lemmas.List.Sums.{sum_by-append}
 use Rattle.std.proofs.lemmas.Bool.Decides.{nat_tests}
 use Rattle.elf_image.specs.declared.segments.ProgramHeader.{ProgramHeader}
 use Rattle.elf_image.specs.declared.segments.Segment.{Segment}
-use Rattle.elf_image.specs.Segments.{is_loaded, segment_of, segments_in, end_of, highest_end, is_misplaced, starts_early, are_misplaced, is_code}
-
--- the segment of an entry, where it has one
-abbrev pub piece : Bool → Segment → List Segment
-piece true s = s ∷ []
-piece false s = []
+use Rattle.elf_image.specs.Segments.{is_loaded, segment_of, segments_in, piece, end_of, highest_end, is_misplaced, starts_early, are_misplaced, is_code}
 
 piece-is : (e : ProgramHeader) (b : Bool) → is_loaded e ≡ b → map segment_of (filter is_loaded (e ∷ [])) ≡ piece b (segment_of e)
 piece-is e true h = rw h refl
@@ -75,3 +70,13 @@ pub find-more : (ss : List Segment) (s : Segment) (b : Bool)
     → find is_code (ss ++ piece b s) ≡ cond (b && is_code s) (option_or (find is_code ss) (Some s)) (find is_code ss)
 find-more ss s true = rw (find-append is_code ss (s ∷ [])) (or-none (find is_code ss) s (is_code s))
 find-more ss s false = rw (append-nil ss) refl
+
+absent : (b : Bool) (s : Segment) (rest : Option Segment) (n : ℕ) → (rest ≡ None → n ≡ 0) → cond b (Some s) rest ≡ None → 0 + cond b 1 0 + n ≡ 0
+absent true s rest n later h = absurd (cc)
+absent false s rest n later h = rw (later h) refl
+
+-- where no segment is executable, none is counted
+pub count-none : (ss : List Segment) → find is_code ss ≡ None → count_by is_code ss ≡ 0
+count-none [] h = refl
+count-none (s ∷ ss) h =
+    sum_by-append (λ x. cond (is_code x) 1 0) (s ∷ []) ss ∙ absent (is_code s) s (find is_code ss) (count_by is_code ss) (count-none ss) h

@@ -4,9 +4,12 @@ use Rattle.spec_base.specs.declared.layout.Version.{Version}
 use Rattle.spec_base.specs.Layout.{image_limit, is_lawful}
 use Rattle.elf_image.specs.Fields.{word_at}
 use Rattle.elf_image.specs.Segments.{end_of, highest_end}
-use Rattle.elf_image.specs.Profile.{profile, code_of, rounded_up}
+use Rattle.elf_image.specs.Header.{file_header, HasTable}
+use Rattle.elf_image.specs.Sections.{text_span}
+use Rattle.elf_image.specs.Profile.{first_refusal, profile, segments_of, code_of, rounded_up}
 use Rattle.elf_image.specs.declared.segments.Segment.{Segment}
 use Rattle.elf_image.specs.declared.image.Image.{Image}
+use Rattle.elf_image.specs.declared.image.Outline.{Outline}
 
 -- its file part isn't longer than it is and stands in the file, and it lies in [0x1000, limit)
 pub record IsPlaced (limit : ℕ) (bytes : List ℕ) (s : Segment) : Type 0 where
@@ -44,6 +47,15 @@ pub record IsImage (bytes : List ℕ) (version : Version) (image : Image) : Type
   pub entry_aligned : image.entry % 4 ≡ 0
   pub break_is : image.break_start ≡ rounded_up (highest_end image.segments)
   pub break_below : image.break_start ≤ image_limit version
+
+-- what an accepted file shows besides its segments
+pub record IsOutline (bytes : List ℕ) (version : Version) (outline : Outline) : Type 0 where
+  pub table : HasTable bytes
+  pub accepted : first_refusal bytes version ≡ None
+  pub header : outline.header ≡ file_header bytes
+  pub text_start : outline.text_start ≡ (text_span bytes (code_of (segments_of bytes))).start
+  pub text_end : outline.text_end ≡ (text_span bytes (code_of (segments_of bytes))).end
+  pub break_start : outline.break_start ≡ rounded_up (highest_end (segments_of bytes))
 
 -- n words from an offset on
 abbrev pub words_at : ℕ → ℕ → List ℕ → List ℕ

@@ -1,5 +1,5 @@
 -- What one pass over the program header table keeps (this project's own). It is no part of the profile: `IsScan` ties it to that.
-use Rattle.std.specs.Prelude.{◌≡◌, ℕ, ◌+◌, ◌&&◌, ◌||◌, ◌==◌, ◌≤◌, Bool, not, nat_lt, max, cond, if◌then◌else◌, List, length, find, count_by, Option, Some, None}
+use Rattle.std.specs.Prelude.{◌≡◌, ℕ, ◌+◌, ◌&&◌, ◌||◌, ◌==◌, ◌≤◌, Bool, nat_lt, max, cond, if◌then◌else◌, List, length, find, count_by, Option, Some, None, Result, Ok, Err}
 use Rattle.std.specs.Option.{option_or}
 use Rattle.std.specs.List.{list_any}
 use Rattle.elf_image.specs.declared.segments.ProgramHeader.{ProgramHeader}
@@ -32,11 +32,20 @@ pub record IsScan (limit : ℕ) (bytes : List ℕ) (n : ℕ) (scan : Scan) : Typ
   pub few : scan.code_segments ≤ n
   pub code : scan.code ≡ find is_code (segments_in (first_entries n bytes))
 
--- the first of the reasons 11 to 14 that a scan of the whole table shows
-abbrev pub scan_refusal : Scan → Option Refusal
-scan_refusal scan =
-    if scan.dynamic then Some Dynamic
-    else if scan.rewritten then Some Already
-    else if scan.misplaced then Some Misplaced
-    else if not (scan.code_segments == 1) then Some NoText
-    else None
+-- the executable segment, or the first of the reasons 11 to 14: as a scan of the whole table shows it
+abbrev pub only : Option Segment → ℕ → Result Segment Refusal
+only (Some s) n = if n == 1 then Ok s else Err NoText
+only None n = Err NoText
+
+abbrev pub scan_answer : Scan → Result Segment Refusal
+scan_answer scan =
+    if scan.dynamic then Err Dynamic
+    else if scan.rewritten then Err Already
+    else if scan.misplaced then Err Misplaced
+    else only scan.code scan.code_segments
+
+-- the same, as the profile has it
+abbrev pub answered : Option Refusal → Option Segment → Result Segment Refusal
+answered (Some e) code = Err e
+answered None (Some s) = Ok s
+answered None None = Err NoText

@@ -1,5 +1,5 @@
 -- The program header table (gABI chapter 5, "Program Header"), the segments of a file, and the reasons to refuse that they give.
-use Rattle.std.specs.Prelude.{ℕ, zero, suc, ◌+◌, ◌*◌, ◌==◌, ◌&&◌, ◌||◌, Bool, false, not, nat_lt, max, if◌then◌else◌, List, [], ◌∷◌, ◌++◌, length, map, filter, find, count_by, Option, Some, None}
+use Rattle.std.specs.Prelude.{ℕ, zero, suc, ◌+◌, ◌*◌, ◌==◌, ◌&&◌, ◌||◌, Bool, true, false, not, nat_lt, max, if◌then◌else◌, List, [], ◌∷◌, ◌++◌, length, map, filter, find, count_by, Option, Some, None}
 use Rattle.std.specs.List.{list_any}
 use Rattle.spec_base.specs.declared.layout.Version.{Version}
 use Rattle.spec_base.specs.Layout.{image_limit}
@@ -52,6 +52,11 @@ segment_of e = record { address = e.p_vaddr; size = e.p_memsz; flags = e.p_flags
 -- the segments that entries name, in order
 abbrev pub segments_in : List ProgramHeader → List Segment
 segments_in es = map segment_of (filter is_loaded es)
+
+-- the segment of an entry, where it has one
+abbrev pub piece : Bool → Segment → List Segment
+piece true s = s ∷ []
+piece false s = []
 
 -- the first address after a segment
 abbrev pub end_of : Segment → ℕ

@@ -1,6 +1,6 @@
 //! The ELF header.
 
-ghost use Rattle.std.specs.Prelude.{◌≡◌, ◌+◌, ◌*◌, ◌≤◌, ◌<◌, length, IfNone};
+ghost use Rattle.std.specs.Prelude.{◌≡◌, ◌+◌, ◌*◌, ◌≤◌, ◌<◌, length, IfOk, IfErr, Some, None};
 ghost use Rattle.elf_image.specs.Header.{HasTable, file_header, has_magic, header_refusal, holds_table};
 
 use crate::fields::{ends_inside, half_at, word_at, xword_at};
@@ -81,35 +81,38 @@ fn holds_table(header: &FileHeader, file_length: usize) -> bool
         && ends_inside(header.e_phoff, 56, header.e_phnum, file_length)
 }
 
-/// The first reason that the ELF header and the place of the program header table give.
-pub(crate) fn header_refusal(bytes: &[u8]) -> Option<Refusal>
-    ensures first { result ≡ header_refusal bytes.now }
-    ensures table { IfNone result (HasTable bytes.now) }
+/// The ELF header, or the first reason to refuse that it and the place of the program header
+/// table give.
+pub(crate) fn read_header(bytes: &[u8]) -> Result<FileHeader, Refusal>
+    ensures header { IfOk result (λ header. header ≡ file_header bytes.now) }
+    ensures table { IfOk result (λ _. HasTable bytes.now) }
+    ensures passed { IfOk result (λ _. header_refusal bytes.now ≡ None) }
+    ensures refused { IfErr result (λ refusal. header_refusal bytes.now ≡ Some refusal) }
 {
     if bytes.len() > MAX_FILE_BYTES {
-        return Some(Refusal::TooLong);
+        return Err(Refusal::TooLong);
     }
     if bytes.len() < HEADER_BYTES {
-        return Some(Refusal::Short);
+        return Err(Refusal::Short);
     }
     let header = FileHeader::read(bytes);
     if !has_magic(bytes) {
-        Some(Refusal::Magic)
+        Err(Refusal::Magic)
     } else if bytes[4] != ELFCLASS64 {
-        Some(Refusal::Class)
+        Err(Refusal::Class)
     } else if bytes[5] != ELFDATA2LSB {
-        Some(Refusal::ByteOrder)
-    } else if bytes[6] != EV_CURRENT || header.e_version != 1 {
-        Some(Refusal::Version)
+        Err(Refusal::ByteOrder)
+    } else if bytes[6] != EV_CURRENT || header.e_version != u32::from(EV_CURRENT) {
+        Err(Refusal::Version)
     } else if header.e_type != ET_EXEC {
-        Some(Refusal::Kind)
+        Err(Refusal::Kind)
     } else if header.e_machine != EM_RISCV {
-        Some(Refusal::Machine)
+        Err(Refusal::Machine)
     } else if header.e_flags % 16 != 0 {
-        Some(Refusal::Flags)
+        Err(Refusal::Flags)
     } else if !holds_table(&header, bytes.len()) {
-        Some(Refusal::HeaderTable)
+        Err(Refusal::HeaderTable)
     } else {
-        None
+        Ok(header)
     }
 }

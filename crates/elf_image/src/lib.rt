@@ -11,6 +11,6 @@ mod scan;
 mod sections;
 mod segments;
 
-pub use image::{Image, ReadFault};
+pub use image::{Image, ReadFault, read, read_as, text};
 pub use refusal::Refusal;
 pub use segments::Segment;

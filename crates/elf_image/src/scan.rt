@@ -1,7 +1,7 @@
 //! One pass over the program header table.
 
 ghost use Rattle.std.specs.Prelude.{◌≡◌, ◌+◌, ◌<◌, ◌≤◌, length, ◌^◌};
-ghost use Rattle.elf_image.specs.Scan.{IsScan, scan_refusal, seen};
+ghost use Rattle.elf_image.specs.Scan.{IsScan, scan_answer, seen};
 ghost use Rattle.elf_image.specs.Header.{HasTable, file_header};
 
 use crate::header::FileHeader;
@@ -59,20 +59,23 @@ impl Scan {
         }
     }
 
-    /// The first reason to refuse that the scan of the whole table shows.
-    pub(crate) fn refusal(&self) -> Option<Refusal>
-        ensures { result ≡ scan_refusal self.now }
+    /// The executable segment, or the first reason to refuse that the scan of the whole table
+    /// shows.
+    pub(crate) fn code(&self) -> Result<Segment, Refusal>
+        ensures { result ≡ scan_answer self.now }
     {
         if self.dynamic {
-            Some(Refusal::Dynamic)
-        } else if self.rewritten {
-            Some(Refusal::Already)
-        } else if self.misplaced {
-            Some(Refusal::Segment)
-        } else if self.code_segments != 1 {
-            Some(Refusal::NoText)
-        } else {
-            None
+            return Err(Refusal::Dynamic);
+        }
+        if self.rewritten {
+            return Err(Refusal::Already);
+        }
+        if self.misplaced {
+            return Err(Refusal::Segment);
+        }
+        match self.code {
+            Some(code) if self.code_segments == 1 => Ok(code),
+            _ => Err(Refusal::NoText),
         }
     }
 
