@@ -29,7 +29,7 @@ one-is false s = refl
 
 chain-is : (a b c : Bool) (code : Option Segment) (n : ℕ) → (code ≡ None → n ≡ 0)
     → cond a (Err Dynamic) (cond b (Err Already) (cond c (Err Misplaced) (only code n)))
-      ≡ answered (cond a (Some Dynamic) (cond b (Some Already) (cond c (Some Misplaced) (cond (not (n == 1)) (Some NoText) None)))) code
+    ≡ answered (cond a (Some Dynamic) (cond b (Some Already) (cond c (Some Misplaced) (cond (not (n == 1)) (Some NoText) None)))) code
 chain-is true b c code n h = refl
 chain-is false true c code n h = refl
 chain-is false false true code n h = refl
@@ -42,7 +42,7 @@ pub scan_answer-is : (bytes : List ℕ) (version : Version) (scan : Scan)
     → scan_answer scan ≡ answered (entries_refusal bytes version) (code_of (segments_of bytes))
 scan_answer-is bytes version scan h =
     rw (h.dynamic, h.rewritten, h.misplaced, h.code_segments, h.code)
-      (chain-is _ _ _ (code_of (segments_of bytes)) (count_by is_code (segments_of bytes)) (count-none (segments_of bytes)))
+    (chain-is _ _ _ (code_of (segments_of bytes)) (count_by is_code (segments_of bytes)) (count-none (segments_of bytes)))
 
 -- a test of an order, read as the order
 at-most : (a b : ℕ) → nat_lt a b ≡ false → b ≤ a
@@ -97,7 +97,7 @@ few-segments (suc n) bytes =
     let es = first_entries n bytes in
     let e = entry_at n bytes in
     rw (segments_in-more es e, length-append (segments_in es) (piece (is_loaded e) (segment_of e)))
-      (omega (arith, few-segments n bytes, few-pieces (is_loaded e) (segment_of e)))
+    (omega (arith, few-segments n bytes, few-pieces (is_loaded e) (segment_of e)))
 
 is-positive : (n m k : ℕ) → (not (n == 0) && nat_lt m k) ≡ false → 0 < n → k ≤ m
 is-positive n m k h some = grind (arith, nat_tests)
@@ -192,7 +192,7 @@ lawful : (version : Version) (start end k : ℕ) → start % 4 ≡ 0 → end % 4
     → IsTrue (is_lawful (record { text_start = start; text_end = end; regions = k; version = version }))
 lawful version start end k a b c d e f g h =
     both _ _ (both _ _ (both _ _ (both _ _ (both _ _ (both _ _ (both _ _ (true-eq _ _ a) (true-eq _ _ b)) (true-le _ _ c)) (true-lt _ _ d)) (true-le _ _ e))
-      (true-le _ _ f)) (true-le _ _ g)) (true-le _ _ h)
+    (true-le _ _ f)) (true-le _ _ g)) (true-le _ _ h)
 
 -- an aligned address of a span
 pub record IsEntry (t : Span) (entry : ℕ) : Type 0 where
@@ -236,8 +236,8 @@ built : (bytes : List ℕ) (version : Version) (image : Image) (t : Span) → pr
 built bytes version image t given table few apart ordered text entry start end break =
     let code = text.segment in
     let code_placed : IsPlaced (image_limit version) bytes code =
-        placed (image_limit version) bytes code
-          (find-fails is_code (is_misplaced (image_limit version) (length bytes)) image.segments code apart text.segment_is) in
+    placed (image_limit version) bytes code
+    (find-fails is_code (is_misplaced (image_limit version) (length bytes)) image.segments code apart text.segment_is) in
     let some_code : 0 < code.length = positive code (find-passes is_code image.segments code text.segment_is) in
     let in_file : code.offset + code.length ≤ length bytes = code_placed.in_file some_code in
     let fits : code.length ≤ code.size = code_placed.fits in
@@ -258,8 +258,15 @@ built bytes version image t given table few apart ordered text entry start end b
       placed = all-placed (image_limit version) bytes image.segments apart;
       ascending = ascending image.segments ordered;
       text = record {
-        code = code; code_is = text.segment_is; in_file = in_file; after = after; before = before; some = some; few = few_words;
-        start_aligned = start_aligned; end_aligned = end_aligned;
+        code = code;
+        code_is = text.segment_is;
+        in_file = in_file;
+        after = after;
+        before = before;
+        some = some;
+        few = few_words;
+        start_aligned = start_aligned;
+        end_aligned = end_aligned;
       };
       text_above = text_above;
       text_below = text_below;
@@ -280,10 +287,10 @@ IsImage-from_none bytes version none =
     let table = HasTable-from bytes groups.0 in
     let few = table.few in
     let apart = or-false-both (list_any (is_misplaced (image_limit version) (length bytes)) (segments_of bytes)) (starts_early (segments_of bytes))
-        (segments-apart bytes version later.0) in
+    (segments-apart bytes version later.0) in
     let text = text-facts bytes (code_of (segments_of bytes)) later.1 in
     built bytes version (image_of bytes) (text_span bytes (code_of (segments_of bytes))) (ap (λ r. judged r (image_of bytes)) none) table
-      (omega (arith, few-segments (file_header bytes).e_phnum bytes, few)) apart.0 apart.1 text.0 text.1 refl refl refl
+    (omega (arith, few-segments (file_header bytes).e_phnum bytes, few)) apart.0 apart.1 text.0 text.1 refl refl refl
 
 judged-ok : (r : Option Refusal) (image other : Image) → judged r image ≡ Ok other → (r ≡ None) × (image ≡ other)
 judged-ok None image other h = (refl, cc)
@@ -335,7 +342,7 @@ pub scan-refuses : (bytes : List ℕ) (version : Version) (scan : Scan) (e : Ref
     → IsScan (image_limit version) bytes (file_header bytes).e_phnum scan → Err e ≡ scan_answer scan → entries_refusal bytes version ≡ Some e
 scan-refuses bytes version scan e h is =
     answered-err (entries_refusal bytes version) (code_of (segments_of bytes)) e (has-code bytes version)
-      (sym (scan_answer-is bytes version scan h) ∙ sym is)
+    (sym (scan_answer-is bytes version scan h) ∙ sym is)
 
 pub scan-finds : (bytes : List ℕ) (version : Version) (scan : Scan) (s : Segment)
     → IsScan (image_limit version) bytes (file_header bytes).e_phnum scan → Ok s ≡ scan_answer scan
@@ -364,9 +371,10 @@ pub Fits-from_none : (bytes : List ℕ) (version : Version) → first_refusal by
     → ((text_span bytes (code_of (segments_of bytes))).end < 2 ^ 32) × (highest_end (segments_of bytes) < 2 ^ 32)
 unfolding image_of
 Fits-from_none bytes version none =
-    let h = IsImage-from_none bytes version none in
-    (limit-fits version (text_span bytes (code_of (segments_of bytes))).end h.text_below,
-     highest-fits version (highest_end (segments_of bytes)) h.break_below)
+    let h = IsImage-from_none bytes version none in (
+      limit-fits version (text_span bytes (code_of (segments_of bytes))).end h.text_below,
+      highest-fits version (highest_end (segments_of bytes)) h.break_below,
+    )
 
 -- a scan by the numbers that the code has
 pub IsScan-at : (limit : ℕ) (bytes : List ℕ) (version : Version) (header : FileHeader) (scan : Scan) → limit ≡ image_limit version

@@ -31,5 +31,5 @@ pub text_words-is : (bytes : List ℕ) (viewed image : Image) (s : Segment) → 
 unfolding text_words
 text_words-is bytes viewed image s same found =
     let here : text_words bytes viewed ≡ words_at (s.offset + (viewed.text_start - s.address)) ((viewed.text_end - viewed.text_start) / 4) bytes =
-        rw found refl in
+    rw found refl in
     sym here ∙ ap (text_words bytes) same

@@ -36,15 +36,19 @@ or-swap false false c d = refl
 starts_early-append : (ss : List Segment) (s : Segment) → starts_early (ss ++ s ∷ []) ≡ (starts_early ss || nat_lt s.address (highest_end ss))
 starts_early-append [] s = grind (arith, nat_tests)
 starts_early-append (t ∷ ts) s =
-    rw (starts_early-append ts s, list_any-append (λ u. nat_lt u.address (end_of t)) ts (s ∷ []), below-max s.address (end_of t) (highest_end ts),
-        or-false (nat_lt s.address (end_of t)))
-      (or-swap (list_any (λ u. nat_lt u.address (end_of t)) ts) (nat_lt s.address (end_of t)) (starts_early ts) (nat_lt s.address (highest_end ts)))
+    rw (
+      starts_early-append ts s,
+      list_any-append (λ u. nat_lt u.address (end_of t)) ts (s ∷ []),
+      below-max s.address (end_of t) (highest_end ts),
+      or-false (nat_lt s.address (end_of t)),
+    )
+    (or-swap (list_any (λ u. nat_lt u.address (end_of t)) ts) (nat_lt s.address (end_of t)) (starts_early ts) (nat_lt s.address (highest_end ts)))
 
 pub are_misplaced-more : (limit n : ℕ) (ss : List Segment) (s : Segment) (b : Bool)
     → are_misplaced limit n (ss ++ piece b s) ≡ (are_misplaced limit n ss || (b && (is_misplaced limit n s || nat_lt s.address (highest_end ss))))
 are_misplaced-more limit n ss s true =
     rw (starts_early-append ss s, list_any-append (is_misplaced limit n) ss (s ∷ []), or-false (is_misplaced limit n s))
-      (or-swap (list_any (is_misplaced limit n) ss) (is_misplaced limit n s) (starts_early ss) (nat_lt s.address (highest_end ss)))
+    (or-swap (list_any (is_misplaced limit n) ss) (is_misplaced limit n s) (starts_early ss) (nat_lt s.address (highest_end ss)))
 are_misplaced-more limit n ss s false = rw (append-nil ss, or-false (are_misplaced limit n ss)) refl
 
 pub highest_end-more : (ss : List Segment) (s : Segment) (b : Bool)

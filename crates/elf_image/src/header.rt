@@ -19,9 +19,13 @@ pub(crate) const PROGRAM_HEADER_BYTES: usize = 56;
 pub(crate) const MAX_PROGRAM_HEADERS: u16 = 64;
 
 const ELFCLASS64: u8 = 2;
+
 const ELFDATA2LSB: u8 = 1;
+
 const EV_CURRENT: u8 = 1;
+
 const ET_EXEC: u16 = 2;
+
 const EM_RISCV: u16 = 243;
 
 /// The fields of the ELF header that the profile reads (gABI chapter 4, "ELF Header").

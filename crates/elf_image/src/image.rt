@@ -55,9 +55,7 @@ struct Outline {
 fn outline_of(header: FileHeader, text: Span, reached: u128) -> Outline
     requires text { text.end < 2 ^ 32 }
     requires reached { reached < 2 ^ 32 }
-    ensures {
-        result ≡ record { header = header; text_start = text.start; text_end = text.end; break_start = rounded_up reached }
-    }
+    ensures { result ≡ record { header = header; text_start = text.start; text_end = text.end; break_start = rounded_up reached } }
 {
     Outline {
         header,
@@ -147,12 +145,7 @@ fn first_code(segments: &[Segment]) -> Option<&Segment>
 }
 
 /// So many words from an offset on.
-fn words_at(
-    alloc: Global,
-    bytes: &[u8],
-    offset: usize,
-    count: usize,
-) -> Result<Vec<u32>, NoMemory>
+fn words_at(alloc: Global, bytes: &[u8], offset: usize, count: usize) -> Result<Vec<u32>, NoMemory>
     requires { offset + 4 * count ≤ length bytes.now }
     ensures { IfOk result (λ words. words.items ≡ words_at offset count bytes.now) }
 {

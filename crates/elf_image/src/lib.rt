@@ -14,3 +14,6 @@ mod segments;
 pub use image::{Image, ReadFault, read, read_as, text};
 pub use refusal::Refusal;
 pub use segments::Segment;
+
+#[cfg(test)]
+mod tests;

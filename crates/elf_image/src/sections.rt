@@ -14,6 +14,7 @@ use spec_base::MAX_TEXT_BYTES;
 const SECTION_HEADER_BYTES: u16 = 64;
 
 const SHF_ALLOC: u32 = 1;
+
 const SHF_EXECINSTR: u32 = 2;
 
 /// The fields of an entry of the section header table that the profile reads (gABI chapter 4,

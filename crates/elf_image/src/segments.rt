@@ -7,9 +7,13 @@ use crate::fields::{has_bit, word_at, xword_at};
 use spec_base::RANGE_START;
 
 const PT_LOAD: u32 = 1;
+
 const PT_DYNAMIC: u32 = 2;
+
 const PT_INTERP: u32 = 3;
+
 const PT_RECORD: u32 = 0x6053_4831;
+
 const PF_X: u32 = 0;
 
 /// The fields of an entry of the program header table that the profile reads (gABI chapter 5,

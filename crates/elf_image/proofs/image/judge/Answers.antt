@@ -23,7 +23,7 @@ returns-in_err-text-clause-refused c =
     let p = err_from_is_err_and c.from_residual-in_err-text.result c.from_residual-in_err-text.ensures.1 in
     let scan = IsScan-at c.image_limit.result bytes version c.in_ok-header.header c.of-scan.result c.image_limit.ensures c.in_ok-header.ensures.header c.of-scan.ensures in
     rw (p.1, p.2)
-      (text-decides bytes version c.of-scan.result c.in_ok-code.code _ c.in_ok-header.ensures.passed scan c.in_ok-code.ensures c.in_err-text.ensures.refused)
+    (text-decides bytes version c.of-scan.result c.in_ok-code.code _ c.in_ok-header.ensures.passed scan c.in_ok-code.ensures c.in_err-text.ensures.refused)
 
 pub outline_of-requires : goal.outline_of-requires
 outline_of-requires c =
@@ -42,5 +42,5 @@ returns-clause-accepted c =
     let found = c.in_ok-text.ensures.found in
     let is = c.outline_of.ensures in
     IsOutline-from_scan bytes version c.of-scan.result c.in_ok-code.code c.in_ok-text.text c.outline_of.result
-      c.in_ok-header.ensures.table c.in_ok-header.ensures.passed scan c.in_ok-code.ensures found.0 found.1
-      (rw is c.in_ok-header.ensures.header) (rw is refl) (rw is refl) (rw is refl)
+    c.in_ok-header.ensures.table c.in_ok-header.ensures.passed scan c.in_ok-code.ensures found.0 found.1
+    (rw is c.in_ok-header.ensures.header) (rw is refl) (rw is refl) (rw is refl)

@@ -9,4 +9,4 @@ returns-in-Ok-collect_segments-clause-answer c =
 pub returns-in-Ok-collect_segments-clause-image : goal.returns-in-Ok-collect_segments-clause-image
 returns-in-Ok-collect_segments-clause-image c =
     IsImage-from_profile c.args.bytes.now c.args.version _
-      (profile-is c.args.bytes.now c.args.version c.in-Ok.outline _ c.in-Ok.ensures.accepted refl refl c.in-Ok-collect_segments.ensures refl refl refl)
+    (profile-is c.args.bytes.now c.args.version c.in-Ok.outline _ c.in-Ok.ensures.accepted refl refl c.in-Ok-collect_segments.ensures refl refl refl)

@@ -10,4 +10,4 @@ returns c =
     let found : code_of c.deref.result.now ≡ Some code = sym c.first_code.ensures ∙ ap option_copied c.unwrap-code.ensures in
     let here = ap code_of (sym c.deref.ensures.value) ∙ found in
     subst (λ (ws : List ℕ). IfOk c.words_at.result (λ words. words.items ≡ ws))
-      (text_words-is c.args.bytes.now _ _ code c.image.view_is here) c.words_at.ensures
+    (text_words-is c.args.bytes.now _ _ code c.image.view_is here) c.words_at.ensures

@@ -7,5 +7,5 @@ pub loop-i-preserved : goal.loop-i-preserved
 loop-i-preserved c =
     let bytes = c.args.bytes.now in
     IsScan-next c.args.limit bytes c.loop-i.i c.loop-i.scan c.with-scan.result c.read-entry.result c.loop-i.invariant
-      (c.read-entry.ensures ∙ ap (λ h. program_header (h.e_phoff + 56 * c.loop-i.i) bytes) c.requires.header)
-      c.with-scan.ensures
+    (c.read-entry.ensures ∙ ap (λ h. program_header (h.e_phoff + 56 * c.loop-i.i) bytes) c.requires.header)
+    c.with-scan.ensures
