@@ -35,11 +35,11 @@ module _ (places : List (Option ℕ)) where
       let after : List ℕ = slice_set words u.at (jump_to u) in
       let inside : All (λ u. u.at < length words) us = All-tail (λ u. u.at < length words) u us h in
       let inside_after : All (λ u. u.at < length after) us =
-          All-weaker (λ u. u.at < length words) (λ u. u.at < length after) (λ v lt. omega (arith, lt, length-set words u.at (jump_to u))) us inside in
+      All-weaker (λ u. u.at < length words) (λ u. u.at < length after) (λ v lt. omega (arith, lt, length-set words u.at (jump_to u))) us inside in
       All-cons (λ u. slice_index (resolved places us after) u.at ≡ jump_to u) u us
-          (resolved-other us after u.at (after-other u.at us a.0)
-           ∙ get_or-set_same words u.at (jump_to u) 0 (All-head (λ u. u.at < length words) u us h))
-          (resolved-jumps us after a.1 inside_after)
+      (resolved-other us after u.at (after-other u.at us a.0)
+      ∙ get_or-set_same words u.at (jump_to u) 0 (All-head (λ u. u.at < length words) u us h))
+      (resolved-jumps us after a.1 inside_after)
 
   -- where no label lacks a place, each jump has its target
   has_place : (o : Option ℕ) → IsTrue (is_some o) → o ≡ Some (unwrap_or o 0)
@@ -50,7 +50,7 @@ module _ (places : List (Option ℕ)) where
   bound-each [] e = All-nil (λ u. place_of places u.to ≡ Some (target_of places u))
   bound-each (u ∷ us) e =
       All-cons (λ u. place_of places u.to ≡ Some (target_of places u)) u us
-          (has_place (place_of places u.to) (grind arith)) (bound-each us (grind arith))
+      (has_place (place_of places u.to) (grind arith)) (bound-each us (grind arith))
 
   near-each : (us : List Use) → first_far places us ≡ None → All (λ u. IsTrue (reaches u.instr u.at (target_of places u))) us
   near-each [] e = All-nil (λ u. IsTrue (reaches u.instr u.at (target_of places u)))
@@ -64,7 +64,7 @@ closing-ok a b made words e = grind arith
 pub labels_resolved : (code : Code) (words : List ℕ) → Ascend code.uses → All (λ u. u.at < length code.words) code.uses → closed_of code ≡ Ok words → LabelsResolved code words
 labels_resolved code words ascend within closed =
     let ok : (first_unbound code.places code.uses ≡ None) × (first_far code.places code.uses ≡ None) × (resolved code.places code.uses code.words ≡ words) =
-        closing-ok (first_unbound code.places code.uses) (first_far code.places code.uses) (resolved code.places code.uses code.words) words closed in
+    closing-ok (first_unbound code.places code.uses) (first_far code.places code.uses) (resolved code.places code.uses code.words) words closed in
     subst (λ ws. LabelsResolved code ws) ok.2 (record {
       as_many = length-resolved code.places code.uses code.words;
       jumps = λ k d lt. record {

@@ -11,4 +11,4 @@ returns-clause-resolved c =
     let words : List ℕ = take c.self.inside.words.len (c.resolve.new.words ++ drop (length c.resolve.new.words) c.self.inside.words.items) in
     let closed : closed_of (code_in c.self.inside) ≡ Ok words = grind (arith, common_steps, c.resolve.ensures, c.unbound_label.ensures, c.far_label.ensures, c.in_default.is, c.in_default.ensures, c.in_default-far_label.is, c.in_default-far_label.ensures) in
     subst (λ (v : Code). LabelsResolved v words) c.self.view_is
-        (labels_resolved (code_in c.self.inside) words c.self.invariant.ascend c.self.invariant.within closed)
+    (labels_resolved (code_in c.self.inside) words c.self.invariant.ascend c.self.invariant.within closed)
