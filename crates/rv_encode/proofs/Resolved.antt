@@ -1,12 +1,12 @@
 -- Closing resolves each label.
-use Rattle.std.proofs.Common.{◌≡◌, ◌≢◌, ℕ, ◌<◌, ◌⊎◌, List, [], ◌∷◌, length, get_or, set, Option, Some, None, Result, Ok, Err, IsTrue, is_some, unwrap_or, Bool, true, false, arith, ap, refl, sym, ◌∙◌, subst}
+use Rattle.std.proofs.Common.{◌≡◌, ◌≢◌, ℕ, ◌<◌, List, [], ◌∷◌, length, get_or, Option, Some, None, Ok, IsTrue, is_some, unwrap_or, arith, refl, sym, ◌∙◌, subst}
 use Rattle.std.specs.Prelude.{slice_index, slice_set}
 use Rattle.std.specs.List.{All}
 use Rattle.std.proofs.lemmas.List.{length-set, get_or-set_same, get_or-set_other}
 use Rattle.std.proofs.lemmas.List.Elements.{All-nil, All-cons, All-head, All-tail, All-weaker}
 use Rattle.rv_decode.specs.Encoding.{word_of}
 use Rattle.rv_encode.specs.Code.{Code, reaches, distance, with_distance, place_of, target_of, first_unbound, first_far, resolved, closing, closed_of}
-use Rattle.rv_encode.specs.Resolved.{IsResolved, LabelsResolved, Ascend}
+use Rattle.rv_encode.specs.Resolved.{LabelsResolved, Ascend}
 use Rattle.rv_encode.specs.declared.closing.Use.{Use}
 
 module _ (places : List (Option ℕ)) where

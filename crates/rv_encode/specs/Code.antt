@@ -1,6 +1,5 @@
 -- Code whose jumps go to labels, and the words that it becomes (this project's own; the reach of jumps by RISC-V Unprivileged ISA 20191213, section 2.5).
-use Rattle.std.specs.Prelude.{◌≡◌, ◌≢◌, ℕ, ◌+◌, ◌*◌, ◌<◌, ℤ, pos, ◌-ℤ◌, Bool, ◌&&◌, nat_lt, nat_le, IsTrue, if◌then◌else◌, Option, Some, None, Result, Ok, Err, is_some, unwrap_or, List, [], ◌∷◌, length, slice_index, slice_index_or, slice_set}
-use Rattle.std.specs.List.{All}
+use Rattle.std.specs.Prelude.{ℕ, ◌+◌, ◌*◌, ℤ, pos, ◌-ℤ◌, Bool, ◌&&◌, nat_lt, nat_le, if◌then◌else◌, Option, Some, None, Result, Ok, Err, is_some, unwrap_or, List, [], ◌∷◌, slice_index_or, slice_set}
 use Rattle.rv_decode.specs.declared.instr.Instr.{Instr}
 use Rattle.rv_decode.specs.declared.instr.Instr.TheVariants.{Branch, Jal}
 use Rattle.rv_decode.specs.Encoding.{word_of}

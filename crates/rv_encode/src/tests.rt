@@ -1,16 +1,22 @@
 //! Words from the listings of llvm-mc (Debian LLVM 14.0.6, `llvm-mc -triple=riscv64 -mattr=+m`).
 
 ghost use Rattle.std.specs.Prelude.{◌≡◌};
+ghost use Rattle.rv_encode.specs.Code.{IsJump};
 
 use crate::{CloseFault, CodeBuf, encode};
 use rv_decode::{BranchOp, ImmOp, ImmWOp, Instr, LoadOp, RegOp, StoreOp};
 use spec_base::{NoMemory, Park, Reg};
+use std::alloc::Global;
+use std::test::Fail;
 
 fn x(number: u32) -> Reg {
     Reg::from_low_bits(number)
 }
 
-fn beq(rs1: Reg, rs2: Reg) -> Instr {
+/// A branch whose distance is to come.
+fn beq(rs1: Reg, rs2: Reg) -> Instr
+    ensures { IsJump result }
+{
     Instr::Branch {
         op: BranchOp::Beq,
         rs1,
@@ -52,7 +58,7 @@ fn encodes_each_format(rt: HostRuntime) {
 ///       jal x1, done
 /// ```
 #[test]
-fn closes_a_loop(rt: HostRuntime) {
+fn closes_a_loop(rt: HostRuntime) -> Result<(), Fail> {
     let mut code = CodeBuf::new(rt.alloc());
     let start = code.label()?;
     let done = code.label()?;
@@ -78,19 +84,57 @@ fn closes_a_loop(rt: HostRuntime) {
         0xFEB5_1AE3,
         0xFFDF_F0EF,
     ];
-    let words = code.close()?;
+    let words = code.close().map_err(|_| "the code closes")?;
     assert_eq!(rt; words.as_slice(), expected.as_slice());
+    Ok(())
 }
 
-/// The first jump to a label without a place is the fault, though an earlier jump is far.
 #[test]
-fn tells_a_label_without_a_place(rt: HostRuntime) {
+fn tells_a_label_without_a_place(rt: HostRuntime) -> Result<(), Fail> {
     let mut code = CodeBuf::new(rt.alloc());
     let label = code.label()?;
     code.push_to(beq(x(0), x(0)), label)?;
-    assert_eq!(rt; code.close().unwrap_err(), CloseFault::Unbound(label));
+    let fault = code.close().err();
+    assert_eq!(rt; fault, Some(CloseFault::Unbound(label)));
+    Ok(())
 }
 
+/// Closes a branch to a label that stands so many words after it.
+fn branch_ahead(alloc: Global, count: usize) -> Result<Result<Vec<u32>, CloseFault>, NoMemory> {
+    let mut code = CodeBuf::new(alloc);
+    let label = code.label()?;
+    code.push_to(beq(x(0), x(0)), label)?;
+    push_words(&mut code, count)?;
+    code.bind(label);
+    Ok(code.close())
+}
+
+/// Closes a branch to a label that stands so many words before it.
+fn branch_back(alloc: Global, count: usize) -> Result<Result<Vec<u32>, CloseFault>, NoMemory> {
+    let mut code = CodeBuf::new(alloc);
+    let label = code.label()?;
+    code.bind(label);
+    push_words(&mut code, count)?;
+    code.push_to(beq(x(0), x(0)), label)?;
+    Ok(code.close())
+}
+
+/// A branch reaches 4094 bytes ahead and 4096 back.
+#[test]
+fn tells_a_label_that_is_far(rt: HostRuntime) -> Result<(), Fail> {
+    let label = CodeBuf::new(rt.alloc()).label()?;
+    let ahead = branch_ahead(rt.alloc(), 1022)?.map_err(|_| "the code closes")?;
+    assert_eq!(rt; ahead.first(), Some(&0x7E00_0EE3));
+    let fault = branch_ahead(rt.alloc(), 1023)?.err();
+    assert_eq!(rt; fault, Some(CloseFault::Far(label)));
+    let back = branch_back(rt.alloc(), 1024)?.map_err(|_| "the code closes")?;
+    assert_eq!(rt; back.last(), Some(&0x8000_0063));
+    let fault = branch_back(rt.alloc(), 1025)?.err();
+    assert_eq!(rt; fault, Some(CloseFault::Far(label)));
+    Ok(())
+}
+
+/// Appends so many words, which leaves the labels as they are.
 fn push_words(code: &mut CodeBuf, count: usize) -> Result<(), NoMemory>
     ensures { code.new.places ≡ code.old.places }
 {

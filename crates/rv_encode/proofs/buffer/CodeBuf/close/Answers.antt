@@ -1,4 +1,4 @@
-use Rattle.std.proofs.Common.{rules, ◌≡◌, ◌+◌, ◌++◌, List, ℕ, length, take, drop, arith, subst, Ok}
+use Rattle.std.proofs.Common.{◌≡◌, ◌++◌, List, ℕ, length, take, drop, arith, subst, Ok}
 use Rattle.std.proofs.lemmas.Grind.{common_steps}
 use Rattle.rv_encode.specs.Code.{Code, closed_of}
 use Rattle.rv_encode.specs.Resolved.{LabelsResolved}

@@ -1,6 +1,6 @@
-use Rattle.std.proofs.Common.{rules, ◌≡◌, ◌+◌, ◌<◌, ◌++◌, ◌∷◌, [], length, arith, ap, length-append, subst, sym, ◌∙◌, ℕ}
+use Rattle.std.proofs.Common.{◌≡◌, ◌+◌, ◌<◌, length, arith, subst, sym}
 use Rattle.std.proofs.lemmas.Grind.{common_steps}
-use Rattle.rv_encode.specs.Code.{Code, IsJump, closed_of}
+use Rattle.rv_encode.specs.Code.{Code}
 use Rattle.rv_encode.proofs.Kept.{jumps-push, within-push, ascend-push, labels-push}
 use Rattle.rv_encode.proofs.buffer.CodeBuf.push_to.Goals as goal
 
