@@ -1,0 +1,16 @@
+//! The lines of a trace, written and read, and the report of a run.
+#![tactic(auto)]
+
+mod fields;
+mod keyword;
+mod numbers;
+mod reading;
+mod reporting;
+mod trace_line;
+mod words;
+mod writing;
+
+pub use reading::parse_line;
+pub use reporting::{Counts, report};
+pub use trace_line::{TraceBody, TraceLine};
+pub use writing::{line, turns_line, use_line};
