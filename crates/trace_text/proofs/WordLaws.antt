@@ -63,3 +63,13 @@ pub one_word-more : (a text : List ℕ) → one_word (a ∷ words_of text) ≡ N
 unfolding words_of
 one_word-more a [] = refl
 one_word-more a (c ∷ cs) = more (eqb c 32) a c (words_of cs)
+
+begun : (b : Bool) (c : ℕ) (ws : List (List ℕ)) → (v : List ℕ) × (vs : List (List ℕ)) × (cond b ([] ∷ ws) (with_first c ws) ≡ v ∷ vs)
+begun true c ws = ([], ws, refl)
+begun false c [] = (c ∷ [], [], refl)
+begun false c (w ∷ ws) = (c ∷ w, ws, refl)
+
+pub words_of-some : (text : List ℕ) → (w : List ℕ) × (ws : List (List ℕ)) × (words_of text ≡ w ∷ ws)
+unfolding words_of
+words_of-some [] = ([], [], refl)
+words_of-some (c ∷ cs) = begun (eqb c 32) c (words_of cs)
