@@ -3,6 +3,7 @@
 
 mod fields;
 mod keyword;
+mod laws;
 mod numbers;
 mod reading;
 mod reporting;
@@ -10,6 +11,7 @@ mod trace_line;
 mod words;
 mod writing;
 
+pub use laws::{note_lines_are_read, turns_lines_are_read, use_lines_are_read};
 pub use reading::parse_line;
 pub use reporting::{Counts, report};
 pub use trace_line::{TraceBody, TraceLine};
