@@ -154,8 +154,13 @@ words_are_words notes.Fault text h = refl
 body_in-note : (note : Note) (text : List ℕ) → HasLine note text → body_in (note_words note text) ≡ Some (bodies.Note note)
 unfolding body_in fields_in call_in exit_in trapped_in parked_in fault_in
 body_in-note (notes.Call number a0 a1 a2 answer) text h =
-    rw (number_in-decimal (2 ^ 64 - 1) number h.0 (omega (arith, h.0)), number_in-decimal (2 ^ 64 - 1) a0 h.1 (omega (arith, h.1)),
-      number_in-decimal (2 ^ 64 - 1) a1 h.2 (omega (arith, h.2)), number_in-decimal (2 ^ 64 - 1) a2 h.3 (omega (arith, h.3)), answer_in-signed answer h.4) refl
+    rw (
+      number_in-decimal (2 ^ 64 - 1) number h.0 (omega (arith, h.0)),
+      number_in-decimal (2 ^ 64 - 1) a0 h.1 (omega (arith, h.1)),
+      number_in-decimal (2 ^ 64 - 1) a1 h.2 (omega (arith, h.2)),
+      number_in-decimal (2 ^ 64 - 1) a2 h.3 (omega (arith, h.3)),
+      answer_in-signed answer h.4,
+    ) refl
 body_in-note (notes.Text to count) text h =
     rw (text_in-put to count text h) refl
 body_in-note (notes.Exit code) text h = rw (number_in-decimal 255 code (omega (arith, h)) h) refl

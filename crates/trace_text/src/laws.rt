@@ -6,17 +6,14 @@ ghost use Rattle.trace_text.specs.RoundTrip.{NoteLinesAreRead, TurnsLinesAreRead
 /// for each note within the ranges of a line: those of [`crate::parse_line`].
 pub fn note_lines_are_read()
     ensures { NoteLinesAreRead }
-{
-}
+{}
 
 /// The line that ends a trace whose turns are over says its two counts and that.
 pub fn turns_lines_are_read()
     ensures { TurnsLinesAreRead }
-{
-}
+{}
 
 /// The line of a use says its two counts and the instruction's number.
 pub fn use_lines_are_read()
     ensures { UseLinesAreRead }
-{
-}
+{}

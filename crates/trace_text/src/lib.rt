@@ -16,3 +16,6 @@ pub use reading::parse_line;
 pub use reporting::{Counts, report};
 pub use trace_line::{TraceBody, TraceLine};
 pub use writing::{line, turns_line, use_line};
+
+#[cfg(test)]
+mod tests;

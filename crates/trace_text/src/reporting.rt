@@ -29,6 +29,9 @@ pub struct Counts {
     pub state: ShadowState,
 }
 
+/// No report has more bytes.
+const MOST_LENGTH: usize = 256;
+
 fn push_count(line: &mut Vec<u8>, label: &[u8], count: u64) -> Result<(), NoMemory>
     ensures { OnOk result (line.new.items ≡ line.old.items ++ (label.now ++ decimal count)) }
 {
@@ -56,7 +59,7 @@ fn push_state(line: &mut Vec<u8>, state: ShadowState) -> Result<(), NoMemory>
 pub fn report(alloc: Global, counts: &Counts) -> Result<Vec<u8>, NoMemory>
     ensures { IfOk result (λ line. line.items ≡ report_of counts.now) }
 {
-    let mut line = Vec::new(alloc);
+    let mut line = Vec::with_capacity(alloc, MOST_LENGTH)?;
     push_count(&mut line, b"spechint: instructions ", counts.instructions)?;
     push_count(&mut line, b" stalls ", counts.stalls)?;
     push_count(&mut line, b" restarts ", counts.restarts)?;

@@ -10,6 +10,9 @@ use itoa::Buffer;
 use spec_base::{BlockSpot, NoMemory, Note, ReadSpot, Trap};
 use std::alloc::Global;
 
+/// Most lines have no more bytes.
+const USUAL_LENGTH: usize = 64;
+
 /// Adds a word behind a space.
 fn push_word(line: &mut Vec<u8>, word: &[u8]) -> Result<(), NoMemory>
     ensures { OnOk result (line.new.items ≡ line.old.items ++ spaced (word.now ∷ [])) }
@@ -36,13 +39,18 @@ fn hex_digit(value: u8) -> u8
     requires { value < 16 }
     ensures { result ≡ digit_char value }
 {
-    if value < 10 { b'0' + value } else { b'a' + (value - 10) }
+    if value < 10 {
+        b'0' + value
+    } else {
+        b'a' + (value - 10)
+    }
 }
 
 /// Adds bytes behind a space, each as two hexadecimal digits.
 fn push_bytes(line: &mut Vec<u8>, bytes: &[u8]) -> Result<(), NoMemory>
     ensures { OnOk result (line.new.items ≡ line.old.items ++ spaced (hex_text bytes.now ∷ [])) }
 {
+    line.reserve(2 * bytes.len() + 1)?;
     line.push(b' ')?;
     for byte in bytes {
         line.push(hex_digit(*byte / 16))?;
@@ -129,12 +137,7 @@ fn push_numbered(line: &mut Vec<u8>, keyword: &[u8], number: u64) -> Result<(), 
 }
 
 /// Adds the words of a note.
-fn push_note(
-    alloc: Global,
-    line: &mut Vec<u8>,
-    note: &Note,
-    text: &[u8],
-) -> Result<(), NoMemory>
+fn push_note(alloc: Global, line: &mut Vec<u8>, note: &Note, text: &[u8]) -> Result<(), NoMemory>
     ensures { OnOk result (line.new.items ≡ line.old.items ++ spaced (note_words note.now text.now)) }
 {
     match note {
@@ -165,7 +168,8 @@ fn push_note(
 fn begin(alloc: Global, own: u64, shadow: u64) -> Result<Vec<u8>, NoMemory>
     ensures { IfOk result (λ line. line.items ≡ decimal own ++ spaced (decimal shadow ∷ [])) }
 {
-    let mut line = Vec::from_slice(alloc, Buffer::new().format(own).as_bytes())?;
+    let mut line = Vec::with_capacity(alloc, USUAL_LENGTH)?;
+    line.extend_from_slice(Buffer::new().format(own).as_bytes())?;
     push_number(&mut line, shadow)?;
     Ok(line)
 }

@@ -14,10 +14,10 @@ pub returns-in_err-checked_mul-clause-value : goal.returns-in_err-checked_mul-cl
 returns-in_err-checked_mul-clause-value c =
     c.from_residual.ensures ∙ sym (c.loop-byte.invariant
     ∙ number_after-overflow c.args.base c.args.most c.loop-byte.value c.args.word.now c.loop-byte.byte-index c.requires.some c.requires.few
-      c.loop-byte-test.true (omega arith) (omega (arith, c.in_err-checked_mul.ensures)))
+    c.loop-byte-test.true (omega arith) (omega (arith, c.in_err-checked_mul.ensures)))
 
 pub returns-in_err-value-clause-value : goal.returns-in_err-value-clause-value
 returns-in_err-value-clause-value c =
     c.from_residual-in_err-value.ensures ∙ sym (c.loop-byte.invariant
     ∙ number_after-overflow c.args.base c.args.most c.loop-byte.value c.args.word.now c.loop-byte.byte-index c.requires.some c.requires.few
-      c.loop-byte-test.true (omega arith) (omega (arith, c.in_err-value.ensures, c.in_ok-checked_mul.ensures)))
+    c.loop-byte-test.true (omega arith) (omega (arith, c.in_err-value.ensures, c.in_ok-checked_mul.ensures)))
