@@ -1,9 +1,6 @@
 -- What the words of a line say, where one part of them is known.
 use Rattle.std.proofs.Common.{◌≡◌, ℕ, List, [], ◌∷◌, refl}
 use Rattle.std.specs.Prelude.{Option, Some, None, option_and_then}
-use Rattle.trace_text.specs.declared.keyword.Keyword.{Keyword}
-use Rattle.trace_text.specs.declared.trace_line.TraceBody.{TraceBody}
-use Rattle.trace_text.specs.declared.trace_line.TraceLine.{TraceLine}
 use Rattle.trace_text.specs.Grammar.{words_of, decimal_in, keyword_in, fields_in, body_in, line_in}
 use Rattle.trace_text.proofs.WordLaws.{words_of-some}
 

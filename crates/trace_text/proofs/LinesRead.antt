@@ -1,6 +1,6 @@
 -- A line that is printed is read again: its words stand apart, and each says what it was made from.
-use Rattle.std.proofs.Common.{◌≡◌, ◌≢◌, ℕ, zero, suc, ◌+◌, ◌-◌, ◌^◌, ◌<◌, ◌≤◌, Bool, true, false, cond, eqb, List, [], ◌∷◌, ◌++◌, length, take, drop, refl, sym, ap, ◌∙◌, arith, inl, inr}
-use Rattle.std.specs.Prelude.{Option, Some, None, option_map, option_and_then, ◌&&◌, not, codes, decimal, bytes_eq}
+use Rattle.std.proofs.Common.{◌≡◌, ℕ, ◌-◌, ◌^◌, ◌<◌, ◌≤◌, true, false, eqb, List, [], ◌∷◌, ◌++◌, length, take, drop, refl, sym, ap, ◌∙◌, arith, inl, inr}
+use Rattle.std.specs.Prelude.{Some, not, codes, decimal}
 use Rattle.std.specs.Cmp.Derive.{both_true}
 use Rattle.std.specs.List.{list_all}
 use Rattle.std.proofs.lemmas.Bool.{not-true}
@@ -15,10 +15,9 @@ use Rattle.spec_base.specs.declared.spot.ReadSpot.{ReadSpot}
 use Rattle.spec_base.specs.declared.spot.BlockSpot.{BlockSpot}
 use Rattle.trace_text.specs.declared.trace_line.TraceBody.{TraceBody}
 use Rattle.trace_text.specs.declared.trace_line.TraceBody.TheVariants as bodies
-use Rattle.trace_text.specs.declared.trace_line.TraceLine.{TraceLine}
 use Rattle.trace_text.specs.Line.{hex_text, park_name, trap_name, read_words, block_words, note_words, spaced, line_with}
-use Rattle.trace_text.specs.Grammar.{words_of, with_first, decimal_in, park_in, trap_in, call_in, text_in, read_in, block_in, exit_in, trapped_in, parked_in, fault_in, use_in, fields_in, body_in, line_in, line_at}
-use Rattle.trace_text.specs.RoundTrip.{IsWord64, IsAnswer, AreBytes, IsName, IsRead, IsBlock, IsPut, HasLine, NoteLinesAreRead, TurnsLinesAreRead, UseLinesAreRead}
+use Rattle.trace_text.specs.Grammar.{words_of, with_first, park_in, trap_in, call_in, text_in, read_in, block_in, exit_in, trapped_in, parked_in, fault_in, use_in, fields_in, body_in, line_in, line_at}
+use Rattle.trace_text.specs.RoundTrip.{IsRead, IsBlock, IsPut, HasLine, NoteLinesAreRead, TurnsLinesAreRead, UseLinesAreRead}
 use Rattle.trace_text.proofs.NumberLaws.{and-left, and-right}
 use Rattle.trace_text.proofs.Printed.{is_word, number_in-decimal, is_word-decimal, answer_in-signed, is_word-signed, address_in-text, is_word-address, name_in-hex_text, text_count_in-hex_text, is_word-hex_text}
 

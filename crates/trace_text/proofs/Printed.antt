@@ -1,7 +1,7 @@
 -- Numbers and bytes that are printed are read again, and they hold no space.
-use Rattle.std.proofs.Common.{◌≡◌, ◌≢◌, ℕ, zero, suc, ◌+◌, ◌-◌, ◌*◌, ◌/◌, ◌%◌, ◌^◌, ◌<◌, ◌≤◌, Bool, true, false, cond, eqb, ltb, leb, List, [], ◌∷◌, ◌++◌, length, get_or, take, drop, refl, sym, ap, ◌∙◌, arith, rules, ℤ, pos, negsuc}
-use Rattle.std.specs.Prelude.{Option, Some, None, option_map, option_and_then, ◌&&◌, not, codes, decimal, bytes_eq}
-use Rattle.std.specs.Char.{digit_value, digit_char}
+use Rattle.std.proofs.Common.{◌≡◌, ◌≢◌, ℕ, zero, suc, ◌+◌, ◌-◌, ◌*◌, ◌/◌, ◌%◌, ◌^◌, ◌<◌, ◌≤◌, Bool, true, false, cond, eqb, ltb, leb, List, [], ◌∷◌, length, take, refl, sym, ap, ◌∙◌, arith, ℤ, pos, negsuc}
+use Rattle.std.specs.Prelude.{Some, ◌&&◌, not, codes, decimal, bytes_eq}
+use Rattle.std.specs.Char.{digit_char}
 use Rattle.std.specs.Cmp.Derive.{both_true}
 use Rattle.std.specs.Fmt.{digits, digits_onto, digit_glyph, signed_decimal}
 use Rattle.std.specs.List.{list_all}
@@ -11,7 +11,7 @@ use Rattle.std.proofs.lemmas.Bool.{eqb-true, le-leb}
 use Rattle.std.proofs.lemmas.Bool.Decides.{nat_tests}
 use Rattle.std.proofs.lemmas.Fmt.{digits_is_IsNumeral}
 use Rattle.trace_text.specs.Line.{hex_text, address_text}
-use Rattle.trace_text.specs.Grammar.{digit_of, are_digits, has_no_leading_zero, number_in, decimal_in, minus, answer_in, address_in, is_hex, is_name, pairs, name_in, text_count_in}
+use Rattle.trace_text.specs.Grammar.{digit_of, are_digits, has_no_leading_zero, number_in, minus, answer_in, address_in, is_hex, pairs, name_in, text_count_in}
 use Rattle.trace_text.specs.RoundTrip.{IsAnswer, AreBytes, IsName}
 use Rattle.trace_text.proofs.NumberLaws.{and-left, and-right, name_in-some}
 

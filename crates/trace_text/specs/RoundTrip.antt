@@ -1,13 +1,11 @@
 -- What is printed is read again (this project's own).
-use Rattle.std.specs.Prelude.{◌≡◌, ℕ, ◌+◌, ◌^◌, ◌<◌, ◌≤◌, ◌⊎◌, ℤ, pos, negsuc, List, length, Some, ⊤}
+use Rattle.std.specs.Prelude.{◌≡◌, ℕ, ◌^◌, ◌<◌, ◌≤◌, ◌⊎◌, ℤ, pos, negsuc, List, length, Some, ⊤}
 use Rattle.std.specs.List.{AllByRecursion}
 use Rattle.spec_base.specs.declared.note.Note.{Note}
 use Rattle.spec_base.specs.declared.note.Note.TheVariants as notes
 use Rattle.spec_base.specs.declared.spot.ReadSpot.{ReadSpot}
 use Rattle.spec_base.specs.declared.spot.BlockSpot.{BlockSpot}
-use Rattle.trace_text.specs.declared.trace_line.TraceBody.{TraceBody}
 use Rattle.trace_text.specs.declared.trace_line.TraceBody.TheVariants as bodies
-use Rattle.trace_text.specs.declared.trace_line.TraceLine.{TraceLine}
 use Rattle.trace_text.specs.Line.{line_of, turns_line_of, use_line_of}
 use Rattle.trace_text.specs.Grammar.{line_at}
 

@@ -1,4 +1,4 @@
-use Rattle.std.proofs.Common.{◌∙◌, sym, ap, arith, length}
+use Rattle.std.proofs.Common.{◌∙◌, sym, arith}
 use Rattle.std.proofs.Math.ListN.{length-set}
 use Rattle.trace_text.proofs.NumberLaws.{name_in-none, name-bounds, pairs-take, is_named}
 use Rattle.trace_text.proofs.numbers.name_of.Goals as goal

@@ -1,4 +1,3 @@
-use Rattle.std.proofs.Common.{refl}
 use Rattle.trace_text.proofs.WordLaws.{one_word-more}
 use Rattle.trace_text.proofs.words.one.Goals as goal
 
