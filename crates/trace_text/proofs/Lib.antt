@@ -4,3 +4,5 @@ pub mod HexText
 pub mod LineLaws
 pub mod Printed
 pub mod LinesRead
+pub mod OneForm
+pub mod ReadLines

@@ -23,7 +23,7 @@ pub number_in-leading : (base most : ℕ) (word : List ℕ) → has_no_leading_z
 unfolding number_in
 number_in-leading base most word fails = rw fails refl
 
-digit_value-is : (c base : ℕ) → base ≤ 16 → digit_of c < base → digit_value c ≡ digit_of c
+pub digit_value-is : (c base : ℕ) → base ≤ 16 → digit_of c < base → digit_value c ≡ digit_of c
 digit_value-is c base few lt = grind (arith, nat_tests)
 
 number_after-cons : (base most n c : ℕ) (cs : List ℕ) → base ≤ 16 → digit_of c < base

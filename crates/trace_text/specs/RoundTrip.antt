@@ -1,12 +1,14 @@
 -- What is printed is read again (this project's own).
-use Rattle.std.specs.Prelude.{◌≡◌, ℕ, ◌^◌, ◌<◌, ◌≤◌, ◌⊎◌, ℤ, pos, negsuc, List, length, Some, ⊤}
+use Rattle.std.specs.Prelude.{◌≡◌, ℕ, ◌^◌, ◌<◌, ◌≤◌, ◌⊎◌, ℤ, pos, negsuc, List, [], ◌∷◌, length, codes, decimal, Some, ⊤}
 use Rattle.std.specs.List.{AllByRecursion}
 use Rattle.spec_base.specs.declared.note.Note.{Note}
 use Rattle.spec_base.specs.declared.note.Note.TheVariants as notes
 use Rattle.spec_base.specs.declared.spot.ReadSpot.{ReadSpot}
 use Rattle.spec_base.specs.declared.spot.BlockSpot.{BlockSpot}
+use Rattle.trace_text.specs.declared.trace_line.TraceBody.{TraceBody}
 use Rattle.trace_text.specs.declared.trace_line.TraceBody.TheVariants as bodies
-use Rattle.trace_text.specs.Line.{line_of, turns_line_of, use_line_of}
+use Rattle.trace_text.specs.declared.trace_line.TraceLine.{TraceLine}
+use Rattle.trace_text.specs.Line.{note_words, line_with, line_of, turns_line_of, use_line_of}
 use Rattle.trace_text.specs.Grammar.{line_at}
 
 -- numbers below 2^64
@@ -72,3 +74,14 @@ TurnsLinesAreRead = (own shadow : ℕ) → IsWord64 own → IsWord64 shadow
 abbrev pub UseLinesAreRead : Type 0
 UseLinesAreRead = (own shadow number : ℕ) → IsWord64 own → IsWord64 shadow → IsWord64 number
     → line_at (use_line_of own shadow number) ≡ Some (record { own = own; shadow = shadow; body = bodies.Use number })
+
+-- the words of what a line says, behind its counts
+abbrev pub body_words : TraceBody → List ℕ → List (List ℕ)
+body_words (bodies.Note note) text = note_words note text
+body_words (bodies.Use number) text = codes "use" ∷ decimal number ∷ []
+body_words bodies.Turns text = codes "turns" ∷ []
+
+-- no bytes are read but the line that is printed of what they say
+abbrev pub OnlyPrintedIsRead : Type 0
+OnlyPrintedIsRead = (bytes : List ℕ) (l : TraceLine) → line_at bytes ≡ Some l
+    → (text : List ℕ) × (bytes ≡ line_with l.own l.shadow (body_words l.body text))

@@ -11,7 +11,9 @@ mod trace_line;
 mod words;
 mod writing;
 
-pub use laws::{note_lines_are_read, turns_lines_are_read, use_lines_are_read};
+pub use laws::{
+    note_lines_are_read, only_printed_is_read, turns_lines_are_read, use_lines_are_read,
+};
 pub use reading::parse_line;
 pub use reporting::{Counts, report};
 pub use trace_line::{TraceBody, TraceLine};
