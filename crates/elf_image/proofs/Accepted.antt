@@ -21,7 +21,7 @@ use Rattle.elf_image.specs.Scan.{IsScan, only, scan_answer, answered}
 use Rattle.elf_image.specs.Profile.{segments_of, code_of, otherwise, first_refusal, rounded_up, image_of, judged, profile}
 use Rattle.elf_image.specs.Image.{IsPlaced, IsTextOf, IsImage, IsOutline}
 use Rattle.elf_image.proofs.SegmentLemmas.{segments_in-more, count-none}
-use Rattle.elf_image.proofs.Tests.{past, otherwise-none, not-false, and-true, or-false-both, none-at, find-passes, find-fails}
+use Rattle.elf_image.proofs.TestLemmas.{past, otherwise-none, not-false, and-true, or-false-both, none-at, find-passes, find-fails}
 
 one-is : (b : Bool) (s : Segment) → cond b (Ok s) (Err NoText) ≡ answered (cond (not b) (Some NoText) None) (Some s)
 one-is true s = refl
