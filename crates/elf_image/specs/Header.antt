@@ -1,5 +1,5 @@
 -- The ELF header (gABI chapter 4, "ELF Header"; RISC-V psABI, "File Header"), and the reasons to refuse that it gives.
-use Rattle.std.specs.Prelude.{ℕ, ◌+◌, ◌*◌, ◌%◌, ◌==◌, ◌≤◌, ◌&&◌, ◌||◌, Bool, not, nat_lt, nat_le, if◌then◌else◌, List, length, slice_index, Option, Some, None}
+use Rattle.std.specs.Prelude.{ℕ, ◌+◌, ◌*◌, ◌%◌, ◌==◌, ◌≤◌, ◌&&◌, Bool, not, nat_lt, nat_le, if◌then◌else◌, List, length, slice_index, Option, Some, None}
 use Rattle.elf_image.specs.Fields.{half_at, word_at, xword_at}
 use Rattle.elf_image.specs.declared.header.FileHeader.{FileHeader}
 use Rattle.elf_image.specs.declared.refusal.Refusal.{Refusal}
