@@ -1,12 +1,11 @@
 -- What follows where no reason to refuse a file holds.
-use Rattle.std.proofs.Common.{◌≡◌, ℕ, zero, suc, ◌+◌, ◌-◌, ◌*◌, ◌/◌, ◌%◌, ◌^◌, ◌==◌, ◌<◌, ◌≤◌, ◌&&◌, ◌||◌, Bool, true, false, not, nat_lt, nat_le, cond, List, [], ◌∷◌, ◌++◌, length, find, count_by, All, AllPairs, IsTrue, slice_index_or, Option, Some, None, Result, Ok, Err, refl, sym, ap, subst, arith, ◌∙◌, length-append}
+use Rattle.std.proofs.Common.{◌≡◌, ℕ, zero, suc, ◌+◌, ◌-◌, ◌%◌, ◌^◌, ◌==◌, ◌<◌, ◌≤◌, ◌&&◌, Bool, true, false, not, nat_lt, nat_le, cond, List, [], ◌∷◌, length, count_by, All, AllPairs, IsTrue, slice_index_or, Option, Some, None, Ok, Err, refl, sym, ap, subst, arith, ◌∙◌, length-append}
 use Rattle.std.specs.List.{list_any}
 use Rattle.std.proofs.lemmas.Bool.Decides.{nat_tests}
 use Rattle.spec_base.specs.declared.layout.Version.{Version}
 use Rattle.spec_base.specs.declared.layout.Version.TheVariants.{One, Two}
 use Rattle.spec_base.specs.Layout.{image_limit, is_lawful}
 use Rattle.elf_image.specs.declared.header.FileHeader.{FileHeader}
-use Rattle.elf_image.specs.declared.segments.ProgramHeader.{ProgramHeader}
 use Rattle.elf_image.specs.declared.segments.Segment.{Segment}
 use Rattle.elf_image.specs.declared.scan.Scan.{Scan}
 use Rattle.elf_image.specs.declared.sections.Span.{Span}
@@ -14,14 +13,14 @@ use Rattle.elf_image.specs.declared.refusal.Refusal.{Refusal}
 use Rattle.elf_image.specs.declared.refusal.Refusal.TheVariants.{TooLong, Short, Magic, Class, ByteOrder, Version as OtherVersion, Kind, Machine, Flags, HeaderTable, Dynamic, Already, Segment as Misplaced, NoText, Sections, Text, Entry}
 use Rattle.elf_image.specs.declared.image.Image.{Image}
 use Rattle.elf_image.specs.declared.image.Outline.{Outline}
-use Rattle.elf_image.specs.Header.{file_header, has_magic, ei_class, ei_data, ei_version, holds_table, header_refusal, HasTable}
-use Rattle.elf_image.specs.Segments.{entry_at, first_entries, entries, is_dynamic, is_record, is_loaded, segment_of, segments_in, piece, end_of, highest_end, is_misplaced, starts_early, is_code, are_misplaced, entries_refusal}
+use Rattle.elf_image.specs.Header.{file_header, holds_table, header_refusal, HasTable}
+use Rattle.elf_image.specs.Segments.{entry_at, first_entries, is_loaded, segment_of, segments_in, piece, end_of, highest_end, is_misplaced, starts_early, is_code, are_misplaced, entries_refusal}
 use Rattle.elf_image.specs.Sections.{holds_sections, text_span, is_text_of, is_entry_of, text_refusal}
 use Rattle.elf_image.specs.Scan.{IsScan, only, scan_answer, answered}
-use Rattle.elf_image.specs.Profile.{segments_of, code_of, otherwise, first_refusal, rounded_up, image_of, judged, profile}
-use Rattle.elf_image.specs.Image.{IsPlaced, IsTextOf, IsImage, IsOutline}
+use Rattle.elf_image.specs.Profile.{segments_of, code_of, first_refusal, rounded_up, image_of, judged, profile}
+use Rattle.elf_image.specs.Image.{IsPlaced, IsImage, IsOutline}
 use Rattle.elf_image.proofs.SegmentLemmas.{segments_in-more, count-none}
-use Rattle.elf_image.proofs.Tests.{past, otherwise-none, not-false, and-true, or-false-both, none-at, find-passes, find-fails}
+use Rattle.elf_image.proofs.TestLemmas.{past, otherwise-none, not-false, and-true, or-false-both, none-at, find-passes, find-fails}
 
 one-is : (b : Bool) (s : Segment) → cond b (Ok s) (Err NoText) ≡ answered (cond (not b) (Some NoText) None) (Some s)
 one-is true s = refl

@@ -2,6 +2,6 @@ pub mod FieldLemmas
 pub mod SegmentLemmas
 pub mod ScanLemmas
 pub mod SectionLemmas
-pub mod Tests
+pub mod TestLemmas
 pub mod Accepted
 pub mod ImageLemmas

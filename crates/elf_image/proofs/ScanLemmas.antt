@@ -1,13 +1,11 @@
 -- A scan goes on by one entry.
-use Rattle.std.proofs.Common.{◌≡◌, ℕ, zero, suc, ◌+◌, ◌≤◌, ◌&&◌, ◌||◌, Bool, true, false, cond, nat_lt, max, List, [], ◌∷◌, ◌++◌, length, find, count_by, Option, Some, None, refl, sym, ap, arith, add-one}
+use Rattle.std.proofs.Common.{◌≡◌, ℕ, suc, ◌+◌, ◌≤◌, ◌&&◌, ◌||◌, Bool, true, false, cond, List, [], ◌∷◌, ◌++◌, length, refl, arith, add-one}
 use Rattle.std.proofs.Math.Bool.{or-false}
 use Rattle.std.specs.List.{list_any}
-use Rattle.std.specs.Option.{option_or}
 use Rattle.std.proofs.lemmas.List.Folds.{list_any-append}
 use Rattle.elf_image.specs.declared.segments.ProgramHeader.{ProgramHeader}
-use Rattle.elf_image.specs.declared.segments.Segment.{Segment}
 use Rattle.elf_image.specs.declared.scan.Scan.{Scan}
-use Rattle.elf_image.specs.Segments.{entry_at, first_entries, is_dynamic, is_record, is_loaded, segment_of, segments_in, end_of, highest_end, is_misplaced, are_misplaced, is_code}
+use Rattle.elf_image.specs.Segments.{entry_at, first_entries, is_dynamic, is_record, is_loaded, segment_of, segments_in, is_code}
 use Rattle.elf_image.specs.Scan.{seen, IsScan}
 use Rattle.elf_image.proofs.SegmentLemmas.{segments_in-more, are_misplaced-more, highest_end-more, count-more, find-more}
 

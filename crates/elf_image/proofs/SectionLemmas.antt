@@ -1,4 +1,4 @@
-use Rattle.std.proofs.Common.{◌≡◌, ℕ, ◌+◌, List, Option, refl, sym, add-one}
+use Rattle.std.proofs.Common.{◌≡◌, ℕ, ◌+◌, List, Option, refl, add-one}
 use Rattle.elf_image.specs.declared.sections.SectionHeader.{SectionHeader}
 use Rattle.elf_image.specs.declared.sections.Span.{Span}
 use Rattle.elf_image.specs.Sections.{section_at, joined, sections_span}

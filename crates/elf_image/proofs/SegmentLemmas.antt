@@ -1,5 +1,5 @@
 -- What one more entry of the program header table changes.
-use Rattle.std.proofs.Common.{◌≡◌, ℕ, zero, suc, ◌+◌, ◌==◌, ◌&&◌, ◌||◌, Bool, true, false, not, nat_lt, max, cond, List, [], ◌∷◌, ◌++◌, length, map, filter, find, count_by, sum_by, Option, Some, None, refl, sym, ap, arith, add-zero, ◌∙◌}
+use Rattle.std.proofs.Common.{◌≡◌, ℕ, ◌+◌, ◌&&◌, ◌||◌, Bool, true, false, nat_lt, max, cond, List, [], ◌∷◌, ◌++◌, map, filter, find, count_by, Option, Some, None, refl, arith, ◌∙◌}
 use Rattle.std.proofs.Math.Bool.{or-false}
 use Rattle.std.specs.List.{list_any}
 use Rattle.std.specs.Option.{option_or}

@@ -1,5 +1,5 @@
 -- The ELF header (gABI chapter 4, "ELF Header"; RISC-V psABI, "File Header"), and the reasons to refuse that it gives.
-use Rattle.std.specs.Prelude.{ℕ, ◌+◌, ◌*◌, ◌%◌, ◌==◌, ◌≤◌, ◌&&◌, ◌||◌, Bool, not, nat_lt, nat_le, if◌then◌else◌, List, length, slice_index, Option, Some, None}
+use Rattle.std.specs.Prelude.{ℕ, ◌+◌, ◌*◌, ◌%◌, ◌==◌, ◌≤◌, ◌&&◌, Bool, not, nat_lt, nat_le, if◌then◌else◌, List, length, slice_index, Option, Some, None}
 use Rattle.elf_image.specs.Fields.{half_at, word_at, xword_at}
 use Rattle.elf_image.specs.declared.header.FileHeader.{FileHeader}
 use Rattle.elf_image.specs.declared.refusal.Refusal.{Refusal}
@@ -36,6 +36,10 @@ ei_data bytes = slice_index bytes 5
 abbrev pub ei_version : List ℕ → ℕ
 ei_version bytes = slice_index bytes 6
 
+-- none of EF_RISCV_RVC (1), EF_RISCV_FLOAT_ABI (2 and 4) and EF_RISCV_RVE (8) is set
+abbrev pub has_plain_flags : FileHeader → Bool
+has_plain_flags h = h.e_flags % 16 == 0
+
 -- the program header table has 1 to 64 entries of 56 bytes, and ends inside the file
 abbrev pub holds_table : FileHeader → ℕ → Bool
 holds_table h file_length =
@@ -53,7 +57,7 @@ header_refusal bytes =
     else if not ((ei_version bytes == 1) && (h.e_version == 1)) then Some Version
     else if not (h.e_type == 2) then Some Kind
     else if not (h.e_machine == 243) then Some Machine
-    else if not (h.e_flags % 16 == 0) then Some Flags
+    else if not (has_plain_flags h) then Some Flags
     else if not (holds_table h (length bytes)) then Some HeaderTable
     else None
 

@@ -1,5 +1,5 @@
 -- What holds of an accepted file's image (this project's own). All of it follows from the profile.
-use Rattle.std.specs.Prelude.{◌≡◌, ℕ, ◌+◌, ◌-◌, ◌*◌, ◌/◌, ◌%◌, ◌<◌, ◌≤◌, List, [], ◌∷◌, zero, suc, length, All, AllPairs, IsTrue, Option, Some, None, Ok}
+use Rattle.std.specs.Prelude.{◌≡◌, ℕ, ◌+◌, ◌-◌, ◌/◌, ◌%◌, ◌<◌, ◌≤◌, List, [], ◌∷◌, zero, suc, length, All, AllPairs, IsTrue, Option, Some, None, Ok}
 use Rattle.spec_base.specs.declared.layout.Version.{Version}
 use Rattle.spec_base.specs.Layout.{image_limit, is_lawful}
 use Rattle.elf_image.specs.Fields.{word_at}

@@ -1,9 +1,8 @@
 -- The profile of accepted executables (this project's own): a file has an image, or the first of seventeen reasons to refuse it.
-use Rattle.std.specs.Prelude.{◌≡◌, ℕ, ◌+◌, ◌-◌, ◌*◌, ◌/◌, ◌%◌, ◌<◌, ◌≤◌, List, length, find, All, AllPairs, IsTrue, Option, Some, None, Result, Ok, Err}
+use Rattle.std.specs.Prelude.{◌≡◌, ℕ, ◌+◌, ◌*◌, ◌/◌, List, find, Option, Some, None, Result, Ok, Err}
 use Rattle.spec_base.specs.declared.layout.Version.{Version}
-use Rattle.spec_base.specs.Layout.{image_limit, is_lawful}
 use Rattle.elf_image.specs.Header.{file_header, header_refusal}
-use Rattle.elf_image.specs.Segments.{entries, segments_in, end_of, highest_end, is_code, entries_refusal}
+use Rattle.elf_image.specs.Segments.{entries, segments_in, highest_end, is_code, entries_refusal}
 use Rattle.elf_image.specs.Sections.{text_span, text_refusal}
 use Rattle.elf_image.specs.declared.segments.Segment.{Segment}
 use Rattle.elf_image.specs.declared.image.Image.{Image}

@@ -1,5 +1,5 @@
 -- What one pass over the program header table keeps (this project's own). It is no part of the profile: `IsScan` ties it to that.
-use Rattle.std.specs.Prelude.{◌≡◌, ℕ, ◌+◌, ◌&&◌, ◌||◌, ◌==◌, ◌≤◌, Bool, nat_lt, max, cond, if◌then◌else◌, List, length, find, count_by, Option, Some, None, Result, Ok, Err}
+use Rattle.std.specs.Prelude.{◌≡◌, ℕ, ◌+◌, ◌&&◌, ◌||◌, ◌==◌, ◌≤◌, nat_lt, max, cond, if◌then◌else◌, List, length, find, count_by, Option, Some, None, Result, Ok, Err}
 use Rattle.std.specs.Option.{option_or}
 use Rattle.std.specs.List.{list_any}
 use Rattle.elf_image.specs.declared.segments.ProgramHeader.{ProgramHeader}

@@ -42,10 +42,10 @@ pub(crate) fn has_bit(flags: u64, bit: u32) -> bool
 
 /// Whether a table of so many entries of so many bytes at an offset ends inside a file of so many
 /// bytes.
-pub(crate) fn ends_inside(offset: u64, entry_bytes: u64, entries: u16, file_length: usize) -> bool
+pub(crate) fn ends_inside(offset: u64, entry_bytes: usize, entries: u16, file_length: usize) -> bool
     requires { entry_bytes ≤ 64 }
     ensures { result ≡ nat_le (offset + entry_bytes * entries) file_length }
 {
-    let end = u128::from(offset) + u128::from(entry_bytes * u64::from(entries));
+    let end = u128::from(offset) + (entry_bytes * usize::from(entries)) as u128;
     end <= file_length as u128
 }

@@ -7,16 +7,16 @@ use crate::fields::{ends_inside, half_at, word_at, xword_at};
 use crate::refusal::Refusal;
 
 /// The longest file, in bytes: 64 MiB.
-pub(crate) const MAX_FILE_BYTES: usize = 67_108_864;
+const MAX_FILE_BYTES: usize = 67_108_864;
 
 /// How many bytes the ELF header has.
-pub(crate) const HEADER_BYTES: usize = 64;
+const HEADER_BYTES: usize = 64;
 
 /// How many bytes an entry of the program header table has.
 pub(crate) const PROGRAM_HEADER_BYTES: usize = 56;
 
 /// The most entries of the program header table.
-pub(crate) const MAX_PROGRAM_HEADERS: u16 = 64;
+const MAX_PROGRAM_HEADERS: u16 = 64;
 
 const ELFCLASS64: u8 = 2;
 
@@ -27,6 +27,9 @@ const EV_CURRENT: u8 = 1;
 const ET_EXEC: u16 = 2;
 
 const EM_RISCV: u16 = 243;
+
+/// The flags of RVC, of the floating-point ABI and of RVE are those below this one.
+const EF_RISCV_TSO: u32 = 16;
 
 /// The fields of the ELF header that the profile reads (gABI chapter 4, "ELF Header").
 #[derive(Clone, Copy, Debug)]
@@ -79,10 +82,15 @@ fn has_magic(bytes: &[u8]) -> bool
 fn holds_table(header: &FileHeader, file_length: usize) -> bool
     ensures { result ≡ holds_table header.now file_length }
 {
-    header.e_phentsize == 56
+    usize::from(header.e_phentsize) == PROGRAM_HEADER_BYTES
         && 1 <= header.e_phnum
         && header.e_phnum <= MAX_PROGRAM_HEADERS
-        && ends_inside(header.e_phoff, 56, header.e_phnum, file_length)
+        && ends_inside(
+            header.e_phoff,
+            PROGRAM_HEADER_BYTES,
+            header.e_phnum,
+            file_length,
+        )
 }
 
 /// The ELF header, or the first reason to refuse that it and the place of the program header
@@ -112,7 +120,7 @@ pub(crate) fn read_header(bytes: &[u8]) -> Result<FileHeader, Refusal>
         Err(Refusal::Kind)
     } else if header.e_machine != EM_RISCV {
         Err(Refusal::Machine)
-    } else if header.e_flags % 16 != 0 {
+    } else if header.e_flags % EF_RISCV_TSO != 0 {
         Err(Refusal::Flags)
     } else if !holds_table(&header, bytes.len()) {
         Err(Refusal::HeaderTable)

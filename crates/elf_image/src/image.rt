@@ -8,7 +8,7 @@ ghost use Rattle.elf_image.specs.Profile.{Answers, code_of, first_refusal, profi
 ghost use Rattle.elf_image.specs.Image.{IsImage, IsOutline, IsTextOf, text_words, words_at};
 
 use crate::fields::word_at;
-use crate::header::{FileHeader, read_header};
+use crate::header::{FileHeader, PROGRAM_HEADER_BYTES, read_header};
 use crate::refusal::Refusal;
 use crate::scan::Scan;
 use crate::sections::{Span, find_text};
@@ -100,7 +100,7 @@ fn collect_segments(
     let start = header.e_phoff as usize;
     let mut segments = Vec::with_capacity(alloc, usize::from(header.e_phnum))?;
     for i in 0..usize::from(header.e_phnum) {
-        let entry = ProgramHeader::read(bytes, start + 56 * i);
+        let entry = ProgramHeader::read(bytes, start + PROGRAM_HEADER_BYTES * i);
         push_segment(&mut segments, &entry)?;
     }
     Ok(List { items: segments })

@@ -4,7 +4,7 @@ ghost use Rattle.std.specs.Prelude.{◌≡◌, ◌+◌, ◌<◌, ◌≤◌, leng
 ghost use Rattle.elf_image.specs.Scan.{IsScan, scan_answer, seen};
 ghost use Rattle.elf_image.specs.Header.{HasTable, file_header};
 
-use crate::header::FileHeader;
+use crate::header::{FileHeader, PROGRAM_HEADER_BYTES};
 use crate::refusal::Refusal;
 use crate::segments::{ProgramHeader, Segment};
 
@@ -95,7 +95,7 @@ impl Scan {
             code: None,
         };
         for i in 0..usize::from(header.e_phnum) {
-            let entry = ProgramHeader::read(bytes, start + 56 * i);
+            let entry = ProgramHeader::read(bytes, start + PROGRAM_HEADER_BYTES * i);
             scan = scan.with(&entry, limit, bytes.len());
         }
         scan

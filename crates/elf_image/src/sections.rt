@@ -11,11 +11,13 @@ use crate::segments::Segment;
 use spec_base::MAX_TEXT_BYTES;
 
 /// How many bytes an entry of the section header table has.
-const SECTION_HEADER_BYTES: u16 = 64;
+const SECTION_HEADER_BYTES: usize = 64;
 
-const SHF_ALLOC: u32 = 1;
+/// The number of a bit of sh_flags.
+const SHF_ALLOC_BIT: u32 = 1;
 
-const SHF_EXECINSTR: u32 = 2;
+/// The number of a bit of sh_flags.
+const SHF_EXECINSTR_BIT: u32 = 2;
 
 /// The fields of an entry of the section header table that the profile reads (gABI chapter 4,
 /// "Sections").
@@ -50,8 +52,8 @@ impl SectionHeader {
     fn is_text(&self) -> bool
         ensures { result ≡ is_text self.now }
     {
-        has_bit(self.sh_flags, SHF_ALLOC)
-            && has_bit(self.sh_flags, SHF_EXECINSTR)
+        has_bit(self.sh_flags, SHF_ALLOC_BIT)
+            && has_bit(self.sh_flags, SHF_EXECINSTR_BIT)
             && 0 < self.sh_size
     }
 
@@ -92,8 +94,13 @@ fn holds_sections(header: &FileHeader, file_length: usize) -> bool
     if header.e_shnum == 0 {
         true
     } else {
-        header.e_shentsize == SECTION_HEADER_BYTES
-            && ends_inside(header.e_shoff, 64, header.e_shnum, file_length)
+        usize::from(header.e_shentsize) == SECTION_HEADER_BYTES
+            && ends_inside(
+                header.e_shoff,
+                SECTION_HEADER_BYTES,
+                header.e_shnum,
+                file_length,
+            )
     }
 }
 
@@ -107,7 +114,7 @@ fn sections_span(bytes: &[u8], header: &FileHeader) -> Option<Span>
     if header.e_shnum != 0 {
         let start = header.e_shoff as usize;
         for i in 0..usize::from(header.e_shnum) {
-            let section = SectionHeader::read(bytes, start + 64 * i);
+            let section = SectionHeader::read(bytes, start + SECTION_HEADER_BYTES * i);
             span = section.join(span);
         }
     }

@@ -12,9 +12,11 @@ const PT_DYNAMIC: u32 = 2;
 
 const PT_INTERP: u32 = 3;
 
+/// This project's own: the record of a rewritten file.
 const PT_RECORD: u32 = 0x6053_4831;
 
-const PF_X: u32 = 0;
+/// The number of a bit of p_flags.
+const PF_X_BIT: u32 = 0;
 
 /// The fields of an entry of the program header table that the profile reads (gABI chapter 5,
 /// "Program Header").
@@ -118,6 +120,6 @@ impl Segment {
     pub(crate) fn is_code(&self) -> bool
         ensures { result ≡ is_code self.now }
     {
-        has_bit(u64::from(self.flags), PF_X) && 0 < self.length
+        has_bit(u64::from(self.flags), PF_X_BIT) && 0 < self.length
     }
 }

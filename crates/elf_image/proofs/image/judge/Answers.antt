@@ -1,4 +1,4 @@
-use Rattle.std.proofs.Common.{◌≡◌, Some, None, Ok, Err, sym, ap, refl}
+use Rattle.std.proofs.Common.{refl}
 use Rattle.std.proofs.lemmas.Result.{err_from_is_err_and}
 use Rattle.elf_image.proofs.Accepted.{refused-by_header, refused-by_entries, scan-refuses, text-decides, IsScan-at, Fits-from_scan, IsOutline-from_scan}
 use Rattle.elf_image.proofs.image.judge.Goals as goal
