@@ -15,7 +15,7 @@ use Rattle.rv_decode.specs.declared.instr.RegOp.TheVariants.{Add, Sub}
 abbrev pub diff : ℕ → ℕ → ℤ
 diff a b = elim (nat_le b a) [ true ↦ pos (a - b) | false ↦ negsuc (b - a - 1) ]
 
--- a number below 2^31 - 2048 is the sum of what lui makes of its upper field of 20 bits and of its lower 12 bits with their sign
+-- what lui makes of the field hi v, plus lo v, is v modulo 2^32 with its sign extended
 abbrev pub hi : ℕ → ℕ
 hi v = (v + 0x800) / 4096 % 2 ^ 20
 

@@ -12,7 +12,8 @@ use Rattle.rv_decode.specs.declared.instr.StoreOp.{StoreOp}
 use Rattle.rv_decode.specs.declared.instr.StoreOp.TheVariants.{Sb, Sh, Sw, Sd}
 use Rattle.rv_model.specs.Rights.{in_text}
 use Rattle.code_model.specs.Assembly.{diff, hi, lo, lui, addi, slli, ld, sd, jalr, nop, X31, X30, ADR}
-use Rattle.code_model.specs.Places.{helpers_start, block_at, LOAD1, LOAD2, LOAD4, LOAD8, STORE1, STORE2, STORE4, STORE8, JUMP, APPEND}
+use Rattle.spec_base.specs.Layout.{helpers_start}
+use Rattle.code_model.specs.Places.{block_at, LOAD1, LOAD2, LOAD4, LOAD8, STORE1, STORE2, STORE4, STORE8, JUMP, APPEND}
 
 -- ---- parts of blocks
 
@@ -55,7 +56,7 @@ store_helper Sd = STORE8
 abbrev pub plain_words : Instr → List Instr
 plain_words i = i ∷ next_block 2 ∷ []
 
--- auipc, whose result v is a number of the original text's place
+-- auipc, whose result is v: a multiple of 4, of which a quarter is built and shifted, since it may need more than 32 bits
 abbrev pub auipc_words : ℕ → ℕ → List Instr
 auipc_words rd v = lui rd (hi (v / 4)) ∷ addi rd rd (lo (v / 4)) ∷ slli rd rd 2 ∷ next_block 4 ∷ []
 

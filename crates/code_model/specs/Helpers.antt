@@ -1,5 +1,5 @@
 -- The helpers that blocks jump to (this project's own). Words are counted from 1.
-use Rattle.std.specs.Prelude.{ℕ, zero, suc, ◌+◌, ◌-◌, ◌*◌, ℤ, pos, negsuc, List, [], ◌∷◌, ◌++◌}
+use Rattle.std.specs.Prelude.{ℕ, zero, suc, ◌+◌, ◌-◌, ◌*◌, true, pos, negsuc, List, [], ◌∷◌, ◌++◌}
 use Rattle.spec_base.specs.declared.layout.Layout.{Layout}
 use Rattle.spec_base.specs.declared.layout.Version.{Version}
 use Rattle.spec_base.specs.declared.layout.Version.TheVariants.{One, Two}
@@ -8,9 +8,9 @@ use Rattle.rv_decode.specs.declared.instr.Instr.{Instr}
 use Rattle.rv_decode.specs.declared.instr.Instr.TheVariants.{Jal, Branch, Hkey, Hcall, Hpark}
 use Rattle.rv_decode.specs.declared.instr.BranchOp.{BranchOp}
 use Rattle.rv_decode.specs.declared.instr.BranchOp.TheVariants.{Beq, Bne, Bltu, Bgeu}
-use Rattle.std.specs.Prelude.{true}
 use Rattle.code_model.specs.Assembly.{diff, hi, lo, lui, addi, andi, slli, srli, add, sub, ld, lwu, sd, sw, jalr, branch_to, jump_to, X31, X30, X29, X28, ADR, RET, ENT, VAL}
-use Rattle.code_model.specs.Places.{helpers_start, LOAD1, LOAD2, LOAD4, LOAD8, STORE1, STORE2, STORE4, STORE8, JUMP, LTAIL, STAIL, APPEND, FAULT, FULL, LOGFULL}
+use Rattle.spec_base.specs.Layout.{helpers_start}
+use Rattle.code_model.specs.Places.{LOAD1, LOAD2, LOAD4, LOAD8, STORE1, STORE2, STORE4, STORE8, JUMP, LTAIL, STAIL, APPEND, FAULT, FULL, LOGFULL}
 
 -- word k of the helper at an offset branches to another helper
 abbrev pub branch_out : BranchOp → ℕ → ℕ → ℕ → ℕ → ℕ → Instr
@@ -23,17 +23,17 @@ abbrev pub range_field : Version → ℕ
 range_field One = 0x10000
 range_field Two = 0x40000
 
--- for an access of so many bytes: from `below` on an address may reach into the text
+-- for an access of so many bytes: `reaching` is the least address from which it may reach into the text
 abbrev pub access_helper : Layout → ℕ → ℕ → ℕ → ℕ → List Instr
-access_helper l width below helper tail =
+access_helper l width reaching helper tail =
     sd 31 RET 0 ∷ sd 30 X30 0 ∷ ld 31 ADR 0
     ∷ andi 30 31 (pos (width - 1)) ∷ branch_out Bne 30 0 helper 5 FAULT ∷ lui 30 0x1
     ∷ branch_out Bltu 31 30 helper 7 FAULT ∷ lui 30 (range_field l.version) ∷ branch_out Bgeu 31 30 helper 9 FAULT
-    ∷ lui 30 (hi below) ∷ addi 30 30 (lo below) ∷ branch_to Bltu 31 30 12 16
+    ∷ lui 30 (hi reaching) ∷ addi 30 30 (lo reaching) ∷ branch_to Bltu 31 30 12 16
     ∷ lui 30 (hi l.text_end) ∷ addi 30 30 (lo l.text_end) ∷ branch_out Bltu 31 30 helper 15 FAULT
     ∷ Jal 0 (diff tail (helper + 60)) ∷ []
 
--- the eight of them. An access of 8 bytes can reach into a text that starts at a multiple of 4 alone
+-- the eight of them. An access of 8 bytes can begin 4 bytes before the text, where that starts off a multiple of 8
 abbrev pub access_helpers : Layout → List Instr
 access_helpers l =
     access_helper l 1 l.text_start LOAD1 LTAIL ++ access_helper l 2 l.text_start LOAD2 LTAIL

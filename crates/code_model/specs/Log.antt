@@ -1,29 +1,33 @@
 -- The hint log and the restart box, in the link (this project's own).
 use Rattle.std.specs.Prelude.{ℕ, zero, suc, ◌+◌, ◌*◌, ◌%◌}
+use Rattle.spec_base.specs.Layout.{link_start}
 use Rattle.rv_model.specs.Memory.{Memory, loaded}
 
 -- ---- the log: pairs of a key and an asked count, from head to tail
 
 -- how many pairs were taken, and how many appended
 abbrev pub log_head : Memory → ℕ
-log_head link = loaded link 0x4200_0000 8
+log_head link = loaded link link_start 8
 
 abbrev pub log_tail : Memory → ℕ
-log_tail link = loaded link 0x4200_0008 8
+log_tail link = loaded link (link_start + 8) 8
 
 -- pair number i stands in one of 64 places
 abbrev pub log_place : ℕ → ℕ
-log_place i = 0x4200_0100 + 16 * (i % 64)
+log_place i = link_start + 256 + 16 * (i % 64)
 
 abbrev pub logged : Memory → ℕ → ℕ × ℕ
 logged link i = (loaded link (log_place i) 8, loaded link (log_place i + 8) 8)
 
 -- ---- the box: the site, then the registers
 
+abbrev pub box_start : ℕ
+box_start = link_start + 0x1000
+
 abbrev pub boxed_site : Memory → ℕ
-boxed_site link = loaded link 0x4200_1000 8
+boxed_site link = loaded link box_start 8
 
 -- register 0 of the box is 0
 abbrev pub boxed : Memory → ℕ → ℕ
 boxed link zero = 0
-boxed link (suc n) = loaded link (0x4200_1000 + 8 * suc n) 8
+boxed link (suc n) = loaded link (box_start + 8 * suc n) 8

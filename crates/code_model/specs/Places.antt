@@ -1,15 +1,7 @@
 -- Where the emitted code stands (this project's own).
 use Rattle.std.specs.Prelude.{ℕ, ◌+◌, ◌-◌, ◌*◌}
+use Rattle.spec_base.specs.Layout.{shadow_start}
 use Rattle.spec_base.specs.declared.layout.Layout.{Layout}
-
-abbrev pub shadow_start : ℕ
-shadow_start = 0x4000_0000
-
-abbrev pub helpers_start : ℕ
-helpers_start = 0x4110_0000
-
-abbrev pub stub_start : ℕ
-stub_start = 0x4180_0000
 
 -- the block of an instruction's address: 16 words for each word of the text
 abbrev pub block_at : Layout → ℕ → ℕ

@@ -1,5 +1,6 @@
 -- Regions of 256 bytes, and the copies that a shadow has of some of them (this project's own).
 use Rattle.std.specs.Prelude.{ℕ, zero, suc, ◌+◌, ◌-◌, ◌*◌, ◌/◌, ◌%◌, Bool, true, false, List, [], ◌∷◌, length, ◌==◌}
+use Rattle.spec_base.specs.Layout.{table_start, list_start, copies_start}
 use Rattle.spec_base.specs.declared.layout.Layout.{Layout}
 use Rattle.rv_model.specs.Memory.{Memory, patched, stored, loaded}
 use Rattle.rv_model.specs.Space.{program_byte}
@@ -8,7 +9,7 @@ use Rattle.rv_model.specs.Space.{program_byte}
 
 -- where a region has its entry of 4 bytes in the table
 abbrev pub entry_address : ℕ → ℕ
-entry_address region = 0x4300_0000 + 4 * region
+entry_address region = table_start + 4 * region
 
 -- the entry: 0, or the number of the region's slot, counted from 1
 abbrev pub entry_of : Memory → ℕ → ℕ
@@ -16,15 +17,15 @@ entry_of shared region = loaded shared (entry_address region) 4
 
 -- how many slots are in use: the first 8 bytes of the list
 abbrev pub slots_in_use : Memory → ℕ
-slots_in_use shared = loaded shared 0x4400_0000 8
+slots_in_use shared = loaded shared list_start 8
 
 -- where a slot, counted from 0, has its word of the list
 abbrev pub listed_address : ℕ → ℕ
-listed_address slot = 0x4400_0008 + 4 * slot
+listed_address slot = list_start + 8 + 4 * slot
 
 -- where a slot, counted from 0, has its 256 bytes
 abbrev pub slot_address : ℕ → ℕ
-slot_address slot = 0x4500_0000 + 256 * slot
+slot_address slot = copies_start + 256 * slot
 
 -- ---- what the shadow has in place of the program's memory
 
@@ -42,7 +43,7 @@ shadowed shared program a = byte_by_entry (entry_of shared (a / 256)) shared pro
 abbrev pub with_copy_at : ℕ → Layout → List ℕ → Memory → Memory → ℕ → Memory
 with_copy_at slot l words program shared region =
     stored (stored (stored (patched shared (slot_address slot) 256 (λ i. program_byte l words program (256 * region + i)))
-    (listed_address slot) 4 (entry_address region)) 0x4400_0000 8 (slot + 1)) (entry_address region) 4 (slot + 1)
+    (listed_address slot) 4 (entry_address region)) list_start 8 (slot + 1)) (entry_address region) 4 (slot + 1)
 
 -- the next free slot becomes the region's
 abbrev pub with_copy : Layout → List ℕ → Memory → Memory → ℕ → Memory

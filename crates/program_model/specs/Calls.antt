@@ -1,4 +1,4 @@
--- The call table: what each call does before the outside is asked, and what its answer makes of the descriptors (this project's own, with the numbers of the RISC-V Linux system calls).
+-- The call table: what each call does before the outside is asked, and what its answer makes of the descriptors (this project's own; the numbers are those of RISC-V Linux, and 1024 for open as newlib has it).
 use Rattle.std.specs.Prelude.{ℕ, zero, suc, ◌+◌, ◌-◌, ◌*◌, ◌%◌, ◌^◌, min, Bool, true, false, ◌&&◌, ◌||◌, ℤ, pos, negsuc, ◌+ℤ◌, List, [], ◌∷◌, ◌++◌, take, drop, nat_lt, nat_le, ◌==◌, Option, Some, None, unwrap_or}
 use Rattle.spec_base.specs.Files.{Name, Files}
 use Rattle.spec_base.specs.declared.spot.ReadSpot.{ReadSpot}

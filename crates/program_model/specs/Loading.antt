@@ -1,4 +1,4 @@
--- Loading: the state in which a program starts (this project's own, in the manner of the RISC-V ELF psABI's program start).
+-- Loading: the state in which a program starts (this project's own).
 use Rattle.std.specs.Prelude.{ℕ, zero, suc, ◌+◌, ◌-◌, ◌*◌, ◌/◌, true, false, List, [], ◌∷◌, ◌++◌, length, flat_map, Option, None}
 use Rattle.spec_base.specs.Word.{bytes_of}
 use Rattle.spec_base.specs.Layout.{range_end, image_limit}

@@ -11,7 +11,7 @@ use Rattle.code_model.specs.Regions.{shadowed, with_copies, set_in_copies, uncop
 use Rattle.run_model.specs.Run.{Run}
 use Rattle.run_model.specs.Moves.{run, run_from}
 use Rattle.run_model.specs.Restarts.{unfilled_with, any_from, before_horizon, reads}
-use Rattle.run_model.specs.Marks.{marks, before_use}
+use Rattle.run_model.specs.Marks.{marks_with, before_use, before_use_with}
 use Rattle.run_model.proofs.Samples.{exits_7, reads_thrice, stores_twice, loads_early, records, rounds, report, spots}
 
 -- no shadow: the stub's words are executed by the own hart alone
@@ -76,7 +76,7 @@ unfolding early_end run_from instr_of patched loaded bytes_at all_from name_from
 loads_early-horizon_2 = refl
 
 loads_early-no_use : before_use loads_early early_end 3 ≡ true
-unfolding early_end run_from instr_of patched loaded bytes_at all_from name_from gather shadowed with_copies set_in_copies uncopied before_use marks any_from state_after
+unfolding early_end run_from instr_of patched loaded bytes_at all_from name_from gather shadowed with_copies set_in_copies uncopied before_use_with marks_with any_from state_after
 loads_early-no_use = refl
 
 -- ---- two records: a copied region, a log, six calls

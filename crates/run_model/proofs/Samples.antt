@@ -148,14 +148,3 @@ report r = r.own_done ∷ r.stalls ∷ r.restarts ∷ r.matched ∷ r.hints ∷ 
 abbrev pub spots : List ReadSpot → List (ℕ × ℕ)
 spots [] = []
 spots (spot ∷ rest) = (spot.offset, spot.count) ∷ spots rest
-
--- the notes of each move that has some, with the counts after it
-abbrev pub with_notes : Run → List (ℕ × ℕ × List Note) → List (ℕ × ℕ × List Note)
-with_notes r rest = elim r.notes [ [] ↦ rest | n ∷ ns ↦ (r.own_done, r.since.shadow, n ∷ ns) ∷ rest ]
-
-abbrev pub trace_from : World → Run → Moves → List (ℕ × ℕ × List Note)
-trace_from w r [] = []
-trace_from w r (m ∷ ms) = let next : Run = step w r m in let later = trace_from w next ms in with_notes next later
-
-abbrev pub trace : World → Moves → List (ℕ × ℕ × List Note)
-trace w ms = trace_from w (opened_run w) ms

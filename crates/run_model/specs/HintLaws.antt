@@ -1,15 +1,18 @@
 -- What is promised of the shadow: its hints are the next reads, its words are bounded, and it follows the run from the restart.
-use Rattle.std.specs.Prelude.{ℕ, zero, suc, ◌+◌, ◌*◌, ◌%◌, ◌≡◌, ◌≤◌, ◌<◌, ◌⊎◌, Bool, true, false, ◌&&◌, not, List, nat_lt, ◌==◌, if◌then◌else◌, Option, Some, None, IsTrue}
+use Rattle.std.specs.Prelude.{ℕ, ◌+◌, ◌-◌, ◌*◌, ◌/◌, ◌%◌, nat_le, slice_get, ◌≡◌, ◌≤◌, ◌<◌, ◌⊎◌, Bool, true, false, ◌&&◌, not, List, nat_lt, ◌==◌, if◌then◌else◌, Option, Some, None, IsTrue}
 use Rattle.spec_base.specs.declared.note.ShadowState.{ShadowState}
 use Rattle.spec_base.specs.declared.note.ShadowState.TheVariants.{Never, Running, Stopped, Parked}
 use Rattle.rv_model.specs.Rights.{is_data}
-use Rattle.program_model.specs.PlainRun.{State}
-use Rattle.code_model.specs.Places.{helpers_start, block_at}
+use Rattle.program_model.specs.PlainRun.{State, text_of}
+use Rattle.rv_decode.specs.declared.instr.Instr.{Instr}
+use Rattle.rv_decode.specs.declared.instr.Instr.TheVariants.{Ecall}
+use Rattle.spec_base.specs.Layout.{shadow_start, helpers_start}
+use Rattle.code_model.specs.Places.{block_at}
 use Rattle.code_model.specs.Regions.{shadowed}
 use Rattle.run_model.specs.Run.{World, Run}
 use Rattle.run_model.specs.Moves.{Moves, run}
 use Rattle.run_model.specs.ShadowMoves.{is_arrival}
-use Rattle.run_model.specs.Restarts.{from_restart, unfilled, before_horizon, reads}
+use Rattle.run_model.specs.Restarts.{from_restart, nothing, unfilled, before_horizon, reads}
 use Rattle.run_model.specs.Marks.{Marks, marks, before_use}
 use Rattle.run_model.specs.OwnLaws.{Accepted}
 
@@ -21,20 +24,24 @@ pub record IsFollowing (r : Run) : Type 0 where
   pub ahead : IsTrue r.since.ahead
   pub whole : IsTrue r.since.whole
 
--- the shadow stands behind the call of its block: at word 7, to which the HCALL of a call's block leads
-abbrev pub is_behind_call : ℕ → Bool
-is_behind_call pc = nat_lt pc helpers_start && (pc % 64 == 28)
+abbrev pub is_ecall : Option Instr → Bool
+is_ecall (Some Ecall) = true
+is_ecall _ = false
 
--- up to which instruction the hints reach: the shadow's last, or the one in whose block it has made its call
-abbrev pub hinted_up_to : Run → ℕ
-hinted_up_to r = if is_behind_call r.shadow.pc then r.since.shadow + 1 else r.since.shadow
+-- the shadow stands behind the HCALL of a call's block: at word 7
+abbrev pub is_behind_call : World → ℕ → Bool
+is_behind_call w pc = nat_le shadow_start pc && (nat_lt pc helpers_start && ((pc % 64 == 28) && is_ecall (slice_get (text_of w.image) ((pc - shadow_start) / 64))))
+
+-- up to which instruction the hints reach: the shadow's last, or the call that it has made in its block
+abbrev pub hinted_up_to : World → Run → ℕ
+hinted_up_to w r = if is_behind_call w r.shadow.pc then r.since.shadow + 1 else r.since.shadow
 
 -- ---- the hints are the next reads
 
 abbrev pub HintsAreReads : Type 0
 HintsAreReads =
     (w : World) → Accepted w → (ms : Moves) → let r = run w ms in IsFollowing r → IsTrue (before_horizon w r r.since.shadow) →
-    r.since.hints ≡ reads w r (hinted_up_to r)
+    r.since.hints ≡ reads w r (hinted_up_to w r)
 
 -- ---- the shadow's words are bounded
 
@@ -53,32 +60,30 @@ WordsBounded =
 
 -- the shadow at word 1 of a block stands for a plain state, outside the registers and bytes of which nothing is said
 pub record StandsFor (w : World) (r : Run) (open_register open_byte : ℕ → Bool) (q : State) : Type 0 where
+  pub inside : w.image.layout.text_start ≤ q.pc
   pub place : r.shadow.pc ≡ block_at w.image.layout q.pc + 4
-  pub registers : (i : ℕ) → open_register i ≡ false → r.shadow.registers i ≡ q.registers i
+  pub registers : (i : ℕ) → 0 < i → i < 32 → open_register i ≡ false → r.shadow.registers i ≡ q.registers i
   pub files : r.shadow.files ≡ q.files
   pub bytes : (a : ℕ) → IsTrue (is_data w.image.layout a) → open_byte a ≡ false → shadowed r.shared r.own.memory a ≡ q.memory a
-
-abbrev pub none : ℕ → Bool
-none i = false
 
 abbrev pub ShadowFollows : Type 0
 ShadowFollows =
     (w : World) → Accepted w → (ms : Moves) → let r = run w ms in IsFollowing r → IsTrue (before_horizon w r r.since.shadow) →
     IsTrue (is_arrival w.image.layout r.shadow.pc) →
-    (q : State) × (from_restart w r r.since.shadow ≡ Some q) × StandsFor w r none (unfilled w r r.since.shadow) q
+    (q : State) × (from_restart w r r.since.shadow ≡ Some q) × StandsFor w r nothing (unfilled w r r.since.shadow) q
 
 -- ---- hints until the first use
 
 -- as long as the shadow's instructions are before the first use, hints and registers are right outside the marks; nothing is said of the hint that the first use itself may give
-pub record HintsUntilUse (w : World) (r : Run) : Type 0 where
-  pub hints : IsTrue (before_use w r (hinted_up_to r)) → r.since.hints ≡ reads w r (hinted_up_to r)
+pub record FollowsUntilUse (w : World) (r : Run) : Type 0 where
+  pub hints : IsTrue (before_use w r (hinted_up_to w r)) → r.since.hints ≡ reads w r (hinted_up_to w r)
   pub follows :
       IsTrue (is_arrival w.image.layout r.shadow.pc) →
       (q : State) × (from_restart w r r.since.shadow ≡ Some q) × StandsFor w r (marks w r r.since.shadow).registers (marks w r r.since.shadow).bytes q
 
-abbrev pub HintsHoldUntilUse : Type 0
-HintsHoldUntilUse =
-    (w : World) → Accepted w → (ms : Moves) → let r = run w ms in IsFollowing r → IsTrue (before_use w r r.since.shadow) → HintsUntilUse w r
+abbrev pub HintsUntilUse : Type 0
+HintsUntilUse =
+    (w : World) → Accepted w → (ms : Moves) → let r = run w ms in IsFollowing r → IsTrue (before_use w r r.since.shadow) → FollowsUntilUse w r
 
 -- the first use is never before the horizon
 abbrev pub UseIsAfterHorizon : Type 0

@@ -1,5 +1,5 @@
 -- Marks: what may rest on a byte that a skipped read left unfilled, and the first use of such a value (this project's own).
-use Rattle.std.specs.Prelude.{ℕ, zero, suc, Bool, true, false, not, ◌&&◌, ◌||◌, List, ◌==◌, Option, Some, None}
+use Rattle.std.specs.Prelude.{ℕ, zero, suc, ◌≡◌, IsTrue, Bool, true, false, not, ◌&&◌, ◌||◌, List, ◌==◌, Option, Some, None}
 use Rattle.spec_base.specs.Word.{plus_int}
 use Rattle.spec_base.specs.declared.layout.Layout.{Layout}
 use Rattle.rv_decode.specs.declared.instr.Instr.{Instr}
@@ -9,7 +9,7 @@ use Rattle.rv_model.specs.Registers.{reg}
 use Rattle.rv_model.specs.Arithmetic.{load_width, store_width}
 use Rattle.program_model.specs.PlainRun.{State, Image}
 use Rattle.run_model.specs.Run.{World, Run}
-use Rattle.run_model.specs.Restarts.{from_restart, instr_at, Action, Reads, Takes_name, Loads, Stores, Other, call_action, is_filled_number, no_byte, any_from, read_leaves}
+use Rattle.run_model.specs.Restarts.{from_restart, instr_at, Action, Reads, TakesName, Loads, Stores, Other, call_action, is_filled_number, nothing, any_from, read_leaves}
 
 pub record Marks : Type 0 where
   pub registers : ℕ → Bool
@@ -17,7 +17,7 @@ pub record Marks : Type 0 where
 
 -- nothing is marked at a restart
 abbrev pub no_marks : Marks
-no_marks = record { registers = no_byte; bytes = no_byte }
+no_marks = record { registers = nothing; bytes = nothing }
 
 -- ---- how an instruction passes marks on
 
@@ -57,16 +57,19 @@ abbrev pub marks_after_some : Image → Bool → Option State → Marks → Mark
 marks_after_some p filled None m = m
 marks_after_some p filled (Some s) m = marks_after p.layout filled s (instr_at p s) m
 
--- the marks after i instructions of the run from the restart
-unfoldable pub marks : World → Run → ℕ → Marks
-marks w r zero = no_marks
-marks w r (suc i) = marks_after_some w.image (is_filled_number r.since.filled (suc i)) (from_restart w r i) (marks w r i)
+-- the marks after i instructions of the run from the restart, where the reads of these numbers were filled in the copies
+unfoldable pub marks_with : List ℕ → World → Run → ℕ → Marks
+marks_with numbers w r zero = no_marks
+marks_with numbers w r (suc i) = marks_after_some w.image (is_filled_number numbers (suc i)) (from_restart w r i) (marks_with numbers w r i)
+
+abbrev pub marks : World → Run → ℕ → Marks
+marks w r i = marks_with r.since.filled w r i
 
 -- ---- uses
 
 -- a marked byte among those of a name
 abbrev pub name_is_marked : Marks → Action → Bool
-name_is_marked m (Takes_name a n) = any_from m.bytes a n
+name_is_marked m (TakesName a n) = any_from m.bytes a n
 name_is_marked m _ = false
 
 -- a marked base of a load, store or jalr, a marked source of a branch, a marked argument of a call, or a marked byte of a name
@@ -83,6 +86,14 @@ some_use p None m = false
 some_use p (Some s) m = is_use p.layout s (instr_at p s) m
 
 -- none of the first i instructions is a use: i is before the first use, or there is none
-unfoldable pub before_use : World → Run → ℕ → Bool
-before_use w r zero = true
-before_use w r (suc i) = before_use w r i && not (some_use w.image (from_restart w r i) (marks w r i))
+unfoldable pub before_use_with : List ℕ → World → Run → ℕ → Bool
+before_use_with numbers w r zero = true
+before_use_with numbers w r (suc i) = before_use_with numbers w r i && not (some_use w.image (from_restart w r i) (marks_with numbers w r i))
+
+abbrev pub before_use : World → Run → ℕ → Bool
+before_use w r i = before_use_with r.since.filled w r i
+
+-- the first use as a number: instruction i + 1 is the first whose arguments are marked
+pub record IsFirstUse (numbers : List ℕ) (w : World) (r : Run) (i : ℕ) : Type 0 where
+  pub before : IsTrue (before_use_with numbers w r i)
+  pub next : before_use_with numbers w r (suc i) ≡ false

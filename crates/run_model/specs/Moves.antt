@@ -19,7 +19,7 @@ landed_with None r notes = record r { cache = landed r.cache; notes = notes }
 
 -- a demanded fetch that fails ends the run, and a queued one is dropped
 abbrev pub fetch_failed : Option BlockSpot → Run → BlockSpot → Run
-fetch_failed (Some demanded) r spot = ended r StoreFailed (note.Fault ∷ [])
+fetch_failed (Some demanded) r spot = ended (record r { cache = landed r.cache }) StoreFailed (note.Fault ∷ [])
 fetch_failed None r spot = record r { cache = landed r.cache; notes = note.Drop spot ∷ [] }
 
 abbrev pub cached_too : Run → BlockSpot → Run

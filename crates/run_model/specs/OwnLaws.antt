@@ -1,16 +1,19 @@
 -- What is promised of the program itself: preservation, invisible shadow, bounded regions, progress, and that the own side follows the run from the restart.
-use Rattle.std.specs.Prelude.{ℕ, zero, suc, ◌+◌, ◌*◌, ◌%◌, ◌^◌, ◌≡◌, ◌≤◌, ◌<◌, ◌⊎◌, ⊤, Bool, true, false, List, [], ◌∷◌, ◌++◌, length, Option, Some, None, IsSome, IsTrue, All}
+use Rattle.std.specs.Prelude.{ℕ, zero, suc, ◌+◌, ◌*◌, ◌%◌, ◌^◌, ◌≡◌, ◌≤◌, ◌<◌, ◌⊎◌, ⊤, Bool, true, false, ◌&&◌, List, [], ◌∷◌, ◌++◌, length, Option, Some, None, IsSome, IsTrue, All}
 use Rattle.spec_base.specs.Files.{Name}
-use Rattle.spec_base.specs.Layout.{is_lawful}
+use Rattle.spec_base.specs.Layout.{is_lawful, image_limit}
 use Rattle.spec_base.specs.declared.machine.View.{View}
 use Rattle.spec_base.specs.declared.machine.View.TheVariants.{Program}
 use Rattle.spec_base.specs.declared.note.Move.{Move}
 use Rattle.spec_base.specs.declared.note.Move.TheVariants.{O, S, T, D}
 use Rattle.rv_model.specs.Memory.{Memory}
+use Rattle.program_model.specs.Descriptors.{start_of}
+use Rattle.program_model.specs.Calls.{CallPlan, Set, Look, Read, Write, Exit}
 use Rattle.program_model.specs.PlainRun.{State, Image, Taken, plain_state, End, Exited, TrapsAt, GoesOn, end_of}
 use Rattle.code_model.specs.Regions.{slots_in_use}
 use Rattle.run_model.specs.Run.{World, Run, RunEnd, Exits, Traps, StoreFailed, SinkFailed, Answer, Usual, Took, Failed, Lost}
 use Rattle.run_model.specs.Moves.{Moves, step, run}
+use Rattle.run_model.specs.ShadowMoves.{fetch_shadow, shadow_plan, is_call_word}
 use Rattle.run_model.specs.Restarts.{from_restart}
 
 -- ---- worlds
@@ -18,14 +21,15 @@ use Rattle.run_model.specs.Restarts.{from_restart}
 abbrev pub AllBytes : List ℕ → Type 0
 AllBytes bytes = All (λ b. b < 256) bytes
 
--- a program that was loaded from an accepted file, and files
+-- a program that was loaded from an accepted file, and files. What is asked of its start is true of each loaded program
 pub record Accepted (w : World) : Type 0 where
   pub lawful : IsTrue (is_lawful w.image.layout)
   pub text : w.image.layout.text_end ≡ w.image.layout.text_start + 4 * length w.image.words
   pub words : All (λ word. word < 2 ^ 32) w.image.words
   pub registers : (i : ℕ) → w.image.start.registers i < 2 ^ 64
   pub memory : (a : ℕ) → w.image.start.memory a < 256
-  pub files : (name : Name) (bytes : List ℕ) → w.files name ≡ Some bytes → AllBytes bytes
+  pub files : (name : Name) (bytes : List ℕ) → w.files name ≡ Some bytes → (length bytes < 2 ^ 56) × AllBytes bytes
+  pub descriptors : (break_start : ℕ) × (w.image.start.files ≡ start_of break_start (image_limit w.image.layout.version))
   pub fresh : w.image.start.exited ≡ None
   pub silent : (w.image.start.out.puts ≡ []) × (w.image.start.err.puts ≡ [])
 
@@ -91,11 +95,23 @@ has_failed Usual = false
 has_failed (Took count) = false
 has_failed Lost = false
 
--- at every run, a move of the shadow leaves all that is the program's, puts nothing, and takes nothing from the outside but that a look failed
+abbrev pub is_look : CallPlan → Bool
+is_look (Look name) = true
+is_look (Set f answer) = false
+is_look (Read d spot a) = false
+is_look (Write to_out a n) = false
+is_look (Exit code) = false
+
+-- the shadow's next word assumes a call that looks in the store
+abbrev pub asks_for_look : World → Run → Bool
+asks_for_look w r = is_call_word (fetch_shadow w r.shadow.pc) && is_look (shadow_plan w r)
+
+-- at every run, a move of the shadow leaves all that is the program's, puts nothing, and hears nothing from the outside but whether a look that it asks for has failed
 pub record IsInvisible (w : World) (r : Run) (m : Move) (x : Answer) : Type 0 where
   pub leaves : own_part (step w r (m, x)) ≡ own_part r
   pub puts_nothing : (step w r (m, x)).text ≡ []
   pub hears_failure_alone : (y : Answer) → has_failed x ≡ has_failed y → step w r (m, x) ≡ step w r (m, y)
+  pub hears_looks_alone : (y : Answer) → asks_for_look w r ≡ false → step w r (m, x) ≡ step w r (m, y)
 
 abbrev pub ShadowIsInvisible : Type 0
 ShadowIsInvisible = (w : World) (r : Run) (m : Move) (x : Answer) → IsShadowMove m → IsInvisible w r m x

@@ -19,14 +19,15 @@ use Rattle.rv_model.specs.Space.{stub_sees}
 use Rattle.program_model.specs.Calls.{CallPlan, Set, Look, Read, Write, Exit, opened, key_of}
 use Rattle.program_model.specs.PlainRun.{State, plan_of, performed, size_in}
 use Rattle.program_model.specs.Cache.{Cache, Gathered, gather, blocks_of}
-use Rattle.code_model.specs.Places.{stub_start, helpers_start, RESTART}
+use Rattle.spec_base.specs.Layout.{stub_start, helpers_start}
+use Rattle.code_model.specs.Places.{RESTART}
 use Rattle.code_model.specs.Stub.{stub}
 use Rattle.code_model.specs.Regions.{slots_in_use}
 use Rattle.run_model.specs.Run.{World, Run, RunEnd, Exits, Traps, StoreFailed, SinkFailed, Answer, Usual, Took, Failed, Lost, Since, rewritten_text}
 
 -- ---- an own instruction is completed
 
--- the own hart stays behind the shadow where it has completed no more than the shadow has begun
+-- the own hart stays behind the shadow where it has completed no more instructions than the shadow
 abbrev pub stays_behind : ℕ → ℕ → ℕ → Bool
 stays_behind restarts own shadow = (restarts == 0) || nat_le own shadow
 
@@ -92,7 +93,7 @@ write_done w k to_out a n r =
     call_done w k (Write to_out a n) (note.Text (sink_number to_out) k ∷ call_note r.own (pos k) ∷ [])
     (with_text k a n (put_whole ((k == n) || (r.restarts == 0)) r))
 
--- a read without a restart has found its hint
+-- a read is told as matched where it was performed without a restart
 abbrev pub read_notes : Bool → State → ReadSpot → List Note
 read_notes true s spot = call_note s (pos spot.count) ∷ []
 read_notes false s spot = note.Match spot ∷ call_note s (pos spot.count) ∷ []

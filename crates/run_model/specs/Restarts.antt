@@ -1,5 +1,5 @@
 -- The plain run from a restart, which the shadow is to follow, and the reads in it (this project's own).
-use Rattle.std.specs.Prelude.{ℕ, zero, suc, ◌+◌, ◌%◌, Bool, true, false, not, ◌&&◌, ◌||◌, List, [], ◌∷◌, ◌++◌, ◌==◌, Option, Some, None}
+use Rattle.std.specs.Prelude.{ℕ, zero, suc, ◌+◌, ◌%◌, ◌≡◌, IsTrue, Bool, true, false, not, ◌&&◌, ◌||◌, List, [], ◌∷◌, ◌++◌, ◌==◌, Option, Some, None}
 use Rattle.std.specs.List.{list_any}
 use Rattle.std.specs.Option.{option_and_then}
 use Rattle.spec_base.specs.Word.{plus_int}
@@ -32,7 +32,7 @@ pub data Action : Type 0 where
   Loads : (address width : ℕ) → Action
   Stores : (address width : ℕ) → Action
   Reads : (spot : ReadSpot) (address : ℕ) → Action
-  Takes_name : (address length : ℕ) → Action
+  TakesName : (address length : ℕ) → Action
   Other : Action
 
 -- how many bytes a call looks at in reading a name: those up to its zero byte, and 256 of a name that is too long; a byte that isn't data isn't one of them
@@ -43,7 +43,7 @@ name_length data_at m a (suc left) =
 
 -- a call with other flags than those of reading looks at no name
 abbrev pub name_action : Bool → Layout → State → ℕ → Action
-name_action true l s a = Takes_name a (name_length (is_data l) s.memory a 256)
+name_action true l s a = TakesName a (name_length (is_data l) s.memory a 256)
 name_action false l s a = Other
 
 abbrev pub action_by : CallKind → Layout → State → CallPlan → Action
@@ -89,15 +89,16 @@ abbrev pub unfilled_by : (ℕ → Bool) → Action → Bool → ℕ → Bool
 unfilled_by before (Reads spot a) filled x = read_leaves (is_within a spot.count x) filled (before x)
 unfilled_by before (Stores a width) filled x = not (is_within a width x) && before x
 unfilled_by before (Loads a width) filled x = before x
-unfilled_by before (Takes_name a n) filled x = before x
+unfilled_by before (TakesName a n) filled x = before x
 unfilled_by before Other filled x = before x
 
-abbrev pub no_byte : ℕ → Bool
-no_byte x = false
+-- no byte, or no register
+abbrev pub nothing : ℕ → Bool
+nothing i = false
 
 -- the addresses that are unfilled after the first i instructions, where the reads of these numbers were filled in the copies
 unfoldable pub unfilled_with : List ℕ → World → Run → ℕ → ℕ → Bool
-unfilled_with numbers w r zero = no_byte
+unfilled_with numbers w r zero = nothing
 unfilled_with numbers w r (suc i) = unfilled_by (unfilled_with numbers w r i) (action w r (suc i)) (is_filled_number numbers (suc i))
 
 abbrev pub unfilled : World → Run → ℕ → ℕ → Bool
@@ -111,7 +112,7 @@ any_from test a (suc n) = test a || any_from test (a + 1) n
 
 abbrev pub touches : (ℕ → Bool) → Action → Bool
 touches bytes (Loads a width) = any_from bytes a width
-touches bytes (Takes_name a n) = any_from bytes a n
+touches bytes (TakesName a n) = any_from bytes a n
 touches bytes (Stores a width) = false
 touches bytes (Reads spot a) = false
 touches bytes Other = false
@@ -127,7 +128,7 @@ abbrev pub read_in : Action → List ReadSpot
 read_in (Reads spot a) = spot ∷ []
 read_in (Loads a width) = []
 read_in (Stores a width) = []
-read_in (Takes_name a n) = []
+read_in (TakesName a n) = []
 read_in Other = []
 
 -- the reads among instructions 2 to i, in order
@@ -135,3 +136,8 @@ unfoldable pub reads : World → Run → ℕ → List ReadSpot
 reads w r zero = []
 reads w r (suc zero) = []
 reads w r (suc (suc i)) = reads w r (suc i) ++ read_in (action w r (suc (suc i)))
+
+-- the horizon as a number: instruction i + 1 is the first that touches an unfilled byte
+pub record IsHorizon (w : World) (r : Run) (i : ℕ) : Type 0 where
+  pub before : IsTrue (before_horizon w r i)
+  pub next : before_horizon w r (suc i) ≡ false

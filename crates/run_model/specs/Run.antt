@@ -55,39 +55,56 @@ pub record ShadowHart : Type 0 where
   pub files : Descriptors
   pub state : ShadowState
 
--- ---- what is known since the last restart: the completed own instructions, the restarting read first; the shadow's arrivals at blocks; whether the own hart has never been past the shadow; whether each put was taken whole; the hints given; the numbers of the reads that the shadow filled; the own state just before the restarting read; the shadow's words; and the regions in use at the restart
+-- ---- what is known since the last restart
 
 pub record Since : Type 0 where
+  -- completed own instructions, the restarting read first
   pub own : ℕ
+  -- the shadow's arrivals at blocks
   pub shadow : ℕ
+  -- the own hart has never been past the shadow
   pub ahead : Bool
+  -- each put was taken whole
   pub whole : Bool
   pub hints : List ReadSpot
+  -- the numbers of the reads that the shadow filled
   pub filled : List ℕ
+  -- the own state just before the restarting read
   pub origin : Option State
+  -- the shadow's words
   pub words : ℕ
+  -- the regions in use at the restart
   pub regions : ℕ
 
 -- before the first restart nothing is behind
 abbrev pub since_start : Since
 since_start = record { own = 0; shadow = 0; ahead = true; whole = true; hints = []; filled = []; origin = None; words = 0; regions = 0 }
 
--- ---- the run. The own hart is a plain state, with its site, the state in which it met its last gate, and its view; `asked` tells whether the stub restarted the shadow for this call; `gathered` counts the blocks that its read has; `shared` is link, table, list and copies; notes and text are those of the last move
+-- ---- the run
 
 pub record Run : Type 0 where
+  -- the own hart, its memory, files and outputs: a plain state
   pub own : State
+  -- where it met its last gate, and its state there
   pub site : ℕ
   pub at_gate : State
+  -- Program, or Stub
   pub view : View
+  -- the stub has restarted the shadow for this call
   pub asked : Bool
+  -- it waits for the demanded block
   pub stalled : Bool
+  -- how many blocks its read has
   pub gathered : ℕ
+  -- the stub's private page
   pub own_page : Memory
   pub shadow : ShadowHart
   pub shadow_page : Memory
+  -- link, table, list and copies
   pub shared : Memory
   pub cache : Cache
   pub since : Since
+  -- counts over the run
   pub moves : ℕ
   pub own_done : ℕ
   pub stalls : ℕ
@@ -96,6 +113,7 @@ pub record Run : Type 0 where
   pub hints : ℕ
   pub regions_most : ℕ
   pub end : Option RunEnd
+  -- what the last move told, and the bytes that its put took
   pub notes : List Note
   pub text : List ℕ
 

@@ -23,7 +23,7 @@ use Rattle.program_model.specs.Descriptors.{Descriptors}
 use Rattle.program_model.specs.Calls.{CallPlan, Set, Look, Read, Write, Exit, call_plan, opened, after_read, bytes_read, key_of}
 use Rattle.program_model.specs.PlainRun.{text_of, size_in}
 use Rattle.program_model.specs.Cache.{Cache, holds, all_hinted, blocks_of}
-use Rattle.code_model.specs.Places.{shadow_start, helpers_start}
+use Rattle.spec_base.specs.Layout.{shadow_start, helpers_start}
 use Rattle.code_model.specs.Blocks.{blocks_from}
 use Rattle.code_model.specs.Helpers.{helpers}
 use Rattle.code_model.specs.Regions.{slots_in_use, shadowed, new_regions, with_copies, set_in_copies}
@@ -49,6 +49,11 @@ fetch_shadow w pc = fetch_by (nat_le helpers_start pc) (nat_le shadow_start pc &
 -- word 1 of a block, the guard block included
 abbrev pub is_arrival : Layout → ℕ → Bool
 is_arrival l pc = nat_lt pc helpers_start && (nat_le shadow_start pc && (nat_le pc (shadow_start + 16 * (l.text_end - l.text_start) + 4) && (pc % 64 == 4)))
+
+-- HCALL 0 or HCALL 1
+abbrev pub is_call_word : Option Instr → Bool
+is_call_word (Some (Hcall unhinted)) = true
+is_call_word _ = false
 
 -- ---- states
 

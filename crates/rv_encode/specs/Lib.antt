@@ -1,2 +1,3 @@
 pub mod Code
+pub mod Resolved
 pub mod Buffer

@@ -9,8 +9,7 @@ use crate::encoding::encode;
 use crate::label::Label;
 use rv_decode::Instr;
 
-
-/// A jump whose word is to come.
+/// A jump whose word is to come: its index, the branch or JAL, and the label that it goes to.
 #[derive(Clone, Copy, Debug, PartialEq, Eq)]
 pub struct Use {
     pub at: usize,
@@ -21,7 +20,10 @@ pub struct Use {
 /// Why code can't be closed.
 #[derive(Clone, Copy, Debug, PartialEq, Eq)]
 pub enum CloseFault {
+    /// A jump goes to this label, which has no place.
     Unbound(Label),
+    /// A jump goes to this label, and can't reach it: a branch reaches from -4096 to 4094 bytes,
+    /// a JAL from -2^20 to 2^20 - 2.
     Far(Label),
 }
 

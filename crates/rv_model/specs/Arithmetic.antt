@@ -19,14 +19,14 @@ use Rattle.rv_decode.specs.declared.instr.BranchOp.TheVariants.{Beq, Bne, Blt, B
 
 -- ---- numbers with a sign
 
--- a register as a signed number, and a signed number as a register
+-- a number below 2^64 with its sign, and the 64 bits of a signed number that 64 bits can hold
 abbrev pub signed : ℕ → ℤ
 signed x = cast_signed w64 x
 
 abbrev pub unsigned : ℤ → ℕ
 unsigned z = cast_unsigned w64 z
 
--- a difference modulo 2^64
+-- a difference modulo 2^64, of numbers below 2^64
 abbrev pub minus : ℕ → ℕ → ℕ
 minus x y = wrap (x + (2 ^ 64 - y))
 
@@ -65,9 +65,11 @@ reg_result Remu x y = if y == 0 then x else x % y
 
 -- ---- 32 bits: the operands are the low words, and the result's sign fills the high word
 
+-- the low word
 abbrev pub low : ℕ → ℕ
 low x = x % 2 ^ 32
 
+-- a number below 2^32 with its sign extended to 64 bits
 abbrev pub extended_word : ℕ → ℕ
 extended_word n = unsigned (cast_signed w32 n)
 

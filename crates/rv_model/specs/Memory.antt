@@ -1,4 +1,4 @@
--- A memory is a byte at each address. A number stands with its lowest byte first (RISC-V Unprivileged ISA 20191213, section 1.4).
+-- A memory is a byte at each address. A number stands with its lowest byte first (RISC-V Unprivileged ISA 20191213, section 2.6).
 use Rattle.std.specs.Prelude.{ℕ, zero, suc, ◌+◌, ◌-◌, ◌*◌, Bool, true, false, ◌&&◌, List, [], ◌∷◌, length, get_or, nat_lt, nat_le}
 use Rattle.spec_base.specs.Word.{byte_of}
 

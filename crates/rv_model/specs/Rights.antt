@@ -1,6 +1,6 @@
 -- What each view may load and store (this project's own).
 use Rattle.std.specs.Prelude.{ℕ, ◌+◌, ◌-◌, ◌*◌, ◌/◌, Bool, not, ◌&&◌, ◌||◌, nat_lt, nat_le}
-use Rattle.spec_base.specs.Layout.{range_end}
+use Rattle.spec_base.specs.Layout.{range_start, range_end, link_start, link_bytes, table_start, list_start, copies_start, private_start, private_bytes}
 use Rattle.spec_base.specs.declared.layout.Layout.{Layout}
 use Rattle.spec_base.specs.declared.machine.View.{View}
 use Rattle.spec_base.specs.declared.machine.View.TheVariants.{Plain, Program, Stub, Shadow}
@@ -10,7 +10,7 @@ use Rattle.rv_model.specs.Memory.{is_within}
 
 -- the addresses that a program can have
 abbrev pub in_range : Layout → ℕ → Bool
-in_range l a = nat_le 0x1000 a && nat_lt a (range_end l.version)
+in_range l a = nat_le range_start a && nat_lt a (range_end l.version)
 
 abbrev pub in_text : Layout → ℕ → Bool
 in_text l a = nat_le l.text_start a && nat_lt a l.text_end
@@ -19,30 +19,30 @@ in_text l a = nat_le l.text_start a && nat_lt a l.text_end
 abbrev pub is_data : Layout → ℕ → Bool
 is_data l a = in_range l a && not (in_text l a)
 
--- ---- the parts that a rewritten program adds. A test that computes at a number stands first
+-- ---- the parts that a rewritten program adds
 
 -- the private page, which ends the address space
 abbrev pub in_private : ℕ → Bool
-in_private = is_within 0xFFFF_FFFF_FFFF_F800 2048
+in_private = is_within private_start private_bytes
 
 -- the hint log and the restart box
 abbrev pub in_link : ℕ → Bool
-in_link = is_within 0x4200_0000 0x2000
+in_link = is_within link_start link_bytes
 
 -- an entry of 4 bytes for each region of 256 bytes of the program range
 abbrev pub in_table : Layout → ℕ → Bool
-in_table l = is_within 0x4300_0000 (range_end l.version / 64)
+in_table l = is_within table_start (range_end l.version / 64)
 
 -- the bytes of the region list: the count in 8, then 4 for each slot, and 4 more where the slots are odd
 abbrev pub list_bytes : Layout → ℕ
 list_bytes l = 8 + (4 * l.regions + 4) / 8 * 8
 
 abbrev pub in_list : Layout → ℕ → Bool
-in_list l = is_within 0x4400_0000 (list_bytes l)
+in_list l = is_within list_start (list_bytes l)
 
 -- a slot of 256 bytes for each region that may be in use
 abbrev pub in_copies : Layout → ℕ → Bool
-in_copies l = is_within 0x4500_0000 (256 * l.regions)
+in_copies l = is_within copies_start (256 * l.regions)
 
 -- what the shadow and the stub share, apart from the program: link, table, list and copies
 abbrev pub in_shared : Layout → ℕ → Bool

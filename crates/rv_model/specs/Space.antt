@@ -1,6 +1,7 @@
 -- A memory of all parts, and what each view sees of it (this project's own).
 use Rattle.std.specs.Prelude.{ℕ, ◌+◌, ◌-◌, ◌/◌, ◌%◌, Bool, true, false, List, get_or, nat_le, Option, Some, None}
 use Rattle.spec_base.specs.Word.{byte_of}
+use Rattle.spec_base.specs.Layout.{shadow_start, helpers_start, stub_start}
 use Rattle.spec_base.specs.declared.layout.Layout.{Layout}
 use Rattle.spec_base.specs.declared.machine.Trap.TheVariants as trap
 use Rattle.spec_base.specs.declared.machine.View.{View}
@@ -68,15 +69,15 @@ stored_in Shadow s a width v = shadow_stored (in_private a) s a width v
 -- ---- fetches
 
 abbrev pub shadow_word : Bool → Space → ℕ → Option ℕ
-shadow_word true s pc = fetched s.helpers 0x4110_0000 pc
-shadow_word false s pc = fetched s.shadow 0x4000_0000 pc
+shadow_word true s pc = fetched s.helpers helpers_start pc
+shadow_word false s pc = fetched s.shadow shadow_start pc
 
 -- the word at pc of the view's code
 abbrev pub word_at : View → Space → ℕ → Option ℕ
 word_at Plain s pc = fetched s.text s.layout.text_start pc
 word_at Program s pc = fetched s.text s.layout.text_start pc
-word_at Stub s pc = fetched s.stub 0x4180_0000 pc
-word_at Shadow s pc = shadow_word (nat_le 0x4110_0000 pc) s pc
+word_at Stub s pc = fetched s.stub stub_start pc
+word_at Shadow s pc = shadow_word (nat_le helpers_start pc) s pc
 
 -- ---- one step
 

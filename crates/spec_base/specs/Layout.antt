@@ -9,15 +9,57 @@ abbrev pub range_end : Version → ℕ
 range_end One = 0x1000_0000
 range_end Two = 0x4000_0000
 
--- the first address that no segment, and the highest that a break, may reach
+-- segments end at or below it, and a break is at most it
 abbrev pub image_limit : Version → ℕ
 image_limit One = 0x0FF0_0000
 image_limit Two = 0x3FF0_0000
 
--- whether a program can have this layout
+-- ---- where the parts stand
+
+-- the first address of the program range
+abbrev pub range_start : ℕ
+range_start = 0x1000
+
+-- a block of 16 words for each word of the text, and a guard block
+abbrev pub shadow_start : ℕ
+shadow_start = 0x4000_0000
+
+abbrev pub helpers_start : ℕ
+helpers_start = 0x4110_0000
+
+abbrev pub stub_start : ℕ
+stub_start = 0x4180_0000
+
+-- hint log and restart box
+abbrev pub link_start : ℕ
+link_start = 0x4200_0000
+
+abbrev pub link_bytes : ℕ
+link_bytes = 0x2000
+
+-- region table, region list and copies
+abbrev pub table_start : ℕ
+table_start = 0x4300_0000
+
+abbrev pub list_start : ℕ
+list_start = 0x4400_0000
+
+abbrev pub copies_start : ℕ
+copies_start = 0x4500_0000
+
+-- the private page of the stub, and that of the shadow: the top of the address space
+abbrev pub private_start : ℕ
+private_start = 0xFFFF_FFFF_FFFF_F800
+
+abbrev pub private_bytes : ℕ
+private_bytes = 2048
+
+-- ---- layouts
+
+-- whether a program can have this layout: a text of words of 4 bytes inside the range of segments, neither empty nor over 1 MiB, and 1 to 65,536 regions
 abbrev pub is_lawful : Layout → Bool
 is_lawful l =
     (l.text_start % 4 == 0) && (l.text_end % 4 == 0)
-    && nat_le 0x1000 l.text_start && nat_lt l.text_start l.text_end && nat_le l.text_end (image_limit l.version)
+    && nat_le range_start l.text_start && nat_lt l.text_start l.text_end && nat_le l.text_end (image_limit l.version)
     && nat_le (l.text_end - l.text_start) 1_048_576
     && nat_le 1 l.regions && nat_le l.regions 65_536

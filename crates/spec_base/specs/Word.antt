@@ -1,4 +1,4 @@
--- Numbers of 64 bits, and the bytes of numbers, of which the lowest comes first (RISC-V Unprivileged ISA 20191213, section 1.4).
+-- Numbers of 64 bits, and the bytes of numbers, of which the lowest comes first (RISC-V Unprivileged ISA 20191213, section 2.6).
 use Rattle.std.specs.Prelude.{ℕ, zero, suc, ◌+◌, ◌-◌, ◌*◌, ◌/◌, ◌%◌, ◌^◌, ℤ, pos, negsuc, List, [], ◌∷◌}
 
 -- a number modulo 2^64

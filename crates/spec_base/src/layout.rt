@@ -69,6 +69,7 @@ pub struct Layout {
     pub text_end: u64,
     /// How many regions of 256 bytes the shadow may copy.
     pub regions: u32,
+    /// Which program range it is made for.
     pub version: Version,
 }
 
@@ -83,7 +84,7 @@ impl Version {
         }
     }
 
-    /// The first address that no segment, and the highest that a break, may reach.
+    /// Segments end at or below this address, and a break is at most it.
     pub fn image_limit(self) -> u64
         ensures { result ≡ image_limit self }
     {

@@ -9,9 +9,11 @@ use crate::spot::{BlockSpot, ReadSpot};
 pub enum ShadowState {
     /// No restart has set it running yet.
     Never,
+    /// It executes the words of its code.
     Running,
     /// The stub has stopped it, and a restart follows.
     Stopped,
+    /// It waits for the next restart.
     Parked(Park),
 }
 
@@ -50,11 +52,11 @@ pub enum Note {
     Trap(Trap, u64),
     /// The shadow was restarted before this read.
     Restart(ReadSpot),
-    /// This read found the shadow's hint for it, so the shadow ran on.
+    /// This read was performed without a restart: its key and count were the oldest pair of the log.
     Match(ReadSpot),
     /// The shadow gave this read as a hint.
     Hint(ReadSpot),
-    /// The shadow found all bytes of this read in the cache.
+    /// The shadow's copies got the bytes of this read from the cache.
     Fill(ReadSpot),
     /// The shadow parked.
     Park(Park),

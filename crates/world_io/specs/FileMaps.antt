@@ -3,7 +3,7 @@ use Rattle.std.specs.Prelude.{◌==◌}
 use Rattle.std.specs.Option.{option_map}
 use Rattle.std.specs.Cmp.Lexicographic.{pointwise}
 use Rattle.indexmap.specs.IndexMap.{get}
-use Rattle.world_io.specs.Outside.{Files}
+use Rattle.spec_base.specs.Files.{Files}
 use Rattle.world_io.specs.declared.file_map.FileMap.{FileMap}
 
 -- the bytes under each name

@@ -3,12 +3,9 @@ use Rattle.std.specs.Prelude.{◌≡◌, ℕ, ◌+◌, ◌-◌, ◌^◌, ◌≤�
 use Rattle.std.specs.List.{list_any}
 use Rattle.std.specs.Option.{option_map}
 use Rattle.std.specs.Cmp.Lexicographic.{pointwise}
+use Rattle.spec_base.specs.Files.{Files}
 
 -- ---- stores
-
--- the bytes of each file, by name
-abbrev pub Files : Type 0
-Files = List ℕ → Option (List ℕ)
 
 -- how many calls of `look` and `fetch` were made, and the numbers, from 1, of those that fail
 pub record Numbers : Type 0 where

@@ -10,6 +10,7 @@ use crate::sink::{Put, Sink};
 pub struct CountSink;
 
 impl CountSink {
+    /// A sink without a count of its own. It takes no memory.
     pub fn new() -> Self
         ensures { ⟦<CountSink as Sink>⟧.state result ≡ untold_sink Endless 0 }
     {

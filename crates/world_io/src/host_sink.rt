@@ -10,6 +10,7 @@ use std::io::Write;
 /// tells nothing, has no sure room, and counts its failures.
 #[derive(Drop)]
 pub struct HostSink<W: Write + Drop> {
+    /// Where the bytes go.
     pub writer: W,
     faults: u64,
 }

@@ -8,6 +8,7 @@ ghost use Rattle.world_io.specs.Puts.{PutSays, IsTakenWhole, Fits};
 pub enum Put {
     /// So many bytes from the front of the piece were taken.
     Took(usize),
+    /// None was taken, and the sink counted it.
     Failed,
 }
 

@@ -16,6 +16,7 @@ pub enum Look {
     Found(u64),
     /// There is no file of this name.
     Absent,
+    /// The store failed, and counted it.
     Failed,
 }
 
@@ -24,6 +25,7 @@ pub enum Look {
 pub enum Fetch {
     /// So many bytes stand at the front of the buffer. What follows them is left open.
     Got(usize),
+    /// The store failed, and counted it.
     Failed,
 }
 

@@ -1,4 +1,4 @@
-use Rattle.std.proofs.Common.{◌≡◌, ◌∙◌, ap, sym, subst}
+use Rattle.std.proofs.Common.{◌∙◌, ap, sym, subst}
 use Rattle.rv_decode.specs.Instruction.{instr_of}
 use Rattle.rv_decode.specs.Encoding.{word_of, IsEncodable}
 use Rattle.rv_decode.proofs.Decodes.{decodes_encoded}

@@ -1,7 +1,7 @@
-use Rattle.std.proofs.Common.{rules, ◌≡◌, ◌+◌, ◌<◌, ◌++◌, ◌∷◌, [], length, arith, ap, length-append, subst, sym, ◌∙◌, ℕ}
+use Rattle.std.proofs.Common.{◌≡◌, ◌+◌, ◌<◌, length, arith, subst, sym}
 use Rattle.std.proofs.lemmas.Grind.{common_steps}
-use Rattle.rv_encode.specs.Code.{Code, IsJump, closed_of}
-use Rattle.rv_encode.proofs.Kept.{jumps-push, within-push, labels-push}
+use Rattle.rv_encode.specs.Code.{Code}
+use Rattle.rv_encode.proofs.Kept.{jumps-push, within-push, ascend-push, labels-push}
 use Rattle.rv_encode.proofs.buffer.CodeBuf.push_to.Goals as goal
 
 pub invariant_of-self-2 : goal.invariant_of-self-2
@@ -12,5 +12,6 @@ invariant_of-self-2 c =
     record {
       jumps = jumps-push _ _ _ c.in_ok-push.ensures.items c.self.invariant.jumps c.requires.jump;
       within = within-push _ _ _ (length c.self.inside.words.items) (length c.push-2.new.self.items) c.in_ok-push.ensures.items c.self.invariant.within (omega arith) (omega arith);
+      ascend = ascend-push _ _ _ (length c.self.inside.words.items) c.in_ok-push.ensures.items c.self.invariant.ascend c.self.invariant.within (sym at_end);
       labels = labels-push _ _ _ _ c.in_ok-push.ensures.items c.self.invariant.labels room;
     }

@@ -1,0 +1,4 @@
+pub mod Line
+pub mod Report
+pub mod Grammar
+pub mod RoundTrip

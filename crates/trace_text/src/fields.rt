@@ -1,0 +1,145 @@
+//! What the fields behind a keyword say.
+
+ghost use Rattle.std.specs.Prelude.{◌≡◌};
+ghost use Rattle.trace_text.specs.Grammar.{words_of, call_in, text_in, read_in, block_in, exit_in, trapped_in, parked_in, fault_in, use_in, fields_in};
+
+use crate::keyword::{Keyword, park_named, trap_named};
+use crate::numbers::{address, answer, decimal, name_of, number, text_count};
+use crate::trace_line::TraceBody;
+use crate::words::{five, one, three, two};
+use spec_base::{BlockSpot, Note, ReadSpot};
+
+#[tactic(auto, unfolding(crate::specs::Grammar::call_in))]
+fn call(fields: &[u8]) -> Option<Note>
+    ensures { result ≡ call_in (words_of fields.now) }
+{
+    let (first, second, third, fourth, fifth) = five(fields)?;
+    let number = decimal(first)?;
+    let a0 = decimal(second)?;
+    let a1 = decimal(third)?;
+    let a2 = decimal(fourth)?;
+    let answer = answer(fifth)?;
+    Some(Note::Call {
+        number,
+        a0,
+        a1,
+        a2,
+        answer,
+    })
+}
+
+#[tactic(auto, unfolding(crate::specs::Grammar::text_in))]
+fn text(fields: &[u8]) -> Option<Note>
+    ensures { result ≡ text_in (words_of fields.now) }
+{
+    let (first, second) = two(fields)?;
+    let to = number(first, 10, 2)?;
+    let count = text_count(second)?;
+    if to == 0 {
+        None
+    } else {
+        Some(Note::Text {
+            to: to as u8,
+            count,
+        })
+    }
+}
+
+#[tactic(auto, unfolding(crate::specs::Grammar::read_in))]
+fn read(fields: &[u8]) -> Option<ReadSpot>
+    ensures { result ≡ read_in (words_of fields.now) }
+{
+    let (first, second, third) = three(fields)?;
+    let name = name_of(first)?;
+    let offset = number(second, 10, (1 << 56) - 1)?;
+    let count = number(third, 10, 65_536)?;
+    Some(ReadSpot {
+        name,
+        offset,
+        count,
+    })
+}
+
+#[tactic(auto, unfolding(crate::specs::Grammar::block_in))]
+fn block(fields: &[u8]) -> Option<BlockSpot>
+    ensures { result ≡ block_in (words_of fields.now) }
+{
+    let (first, second) = two(fields)?;
+    let name = name_of(first)?;
+    let block = number(second, 10, (1 << 44) - 1)?;
+    Some(BlockSpot { name, block })
+}
+
+#[tactic(auto, unfolding(crate::specs::Grammar::exit_in))]
+fn exit(fields: &[u8]) -> Option<Note>
+    ensures { result ≡ exit_in (words_of fields.now) }
+{
+    let word = one(fields)?;
+    let code = number(word, 10, 255)?;
+    Some(Note::Exit(code as u8))
+}
+
+#[tactic(auto, unfolding(crate::specs::Grammar::trapped_in))]
+fn trapped(fields: &[u8]) -> Option<Note>
+    ensures { result ≡ trapped_in (words_of fields.now) }
+{
+    let (first, second) = two(fields)?;
+    let trap = trap_named(first)?;
+    let pc = address(second)?;
+    Some(Note::Trap(trap, pc))
+}
+
+#[tactic(auto, unfolding(crate::specs::Grammar::parked_in))]
+fn parked(fields: &[u8]) -> Option<Note>
+    ensures { result ≡ parked_in (words_of fields.now) }
+{
+    let word = one(fields)?;
+    let cause = park_named(word)?;
+    Some(Note::Park(cause))
+}
+
+#[tactic(auto, unfolding(crate::specs::Grammar::fault_in))]
+fn fault(fields: &[u8]) -> Option<Note>
+    ensures { result ≡ fault_in (words_of fields.now) }
+{
+    let word = one(fields)?;
+    if word == b"store".as_slice() {
+        Some(Note::Fault)
+    } else {
+        None
+    }
+}
+
+#[tactic(auto, unfolding(crate::specs::Grammar::use_in))]
+fn used(fields: &[u8]) -> Option<TraceBody>
+    ensures { result ≡ use_in (words_of fields.now) }
+{
+    let word = one(fields)?;
+    let number = decimal(word)?;
+    Some(TraceBody::Use(number))
+}
+
+/// What the fields behind a keyword say.
+#[tactic(auto, unfolding(crate::specs::Grammar::fields_in))]
+pub fn body_behind(keyword: Keyword, fields: &[u8]) -> Option<TraceBody>
+    ensures { result ≡ fields_in keyword (words_of fields.now) }
+{
+    let note = match keyword {
+        Keyword::Call => call(fields)?,
+        Keyword::Text => text(fields)?,
+        Keyword::Match => Note::Match(read(fields)?),
+        Keyword::Restart => Note::Restart(read(fields)?),
+        Keyword::Stall => Note::Stall(block(fields)?),
+        Keyword::Hint => Note::Hint(read(fields)?),
+        Keyword::Fill => Note::Fill(read(fields)?),
+        Keyword::Park => parked(fields)?,
+        Keyword::Fetch => Note::Fetch(block(fields)?),
+        Keyword::Drop => Note::Drop(block(fields)?),
+        Keyword::Lost => Note::Lost(block(fields)?),
+        Keyword::Exit => exit(fields)?,
+        Keyword::Trap => trapped(fields)?,
+        Keyword::Fault => fault(fields)?,
+        Keyword::Use => return used(fields),
+    };
+    Some(TraceBody::Note(note))
+}

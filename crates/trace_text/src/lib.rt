@@ -1,0 +1,23 @@
+//! The lines of a trace, written and read, and the report of a run.
+#![tactic(auto)]
+
+mod fields;
+mod keyword;
+mod laws;
+mod numbers;
+mod reading;
+mod reporting;
+mod trace_line;
+mod words;
+mod writing;
+
+pub use laws::{
+    note_lines_are_read, only_printed_is_read, turns_lines_are_read, use_lines_are_read,
+};
+pub use reading::parse_line;
+pub use reporting::{Counts, report};
+pub use trace_line::{TraceBody, TraceLine};
+pub use writing::{line, turns_line, use_line};
+
+#[cfg(test)]
+mod tests;

@@ -1,0 +1,6 @@
+//! A whole file from a store: a look, and then its blocks, one after the other.
+#![tactic(auto)]
+
+mod reading;
+
+pub use reading::{FILE_LIMIT, ReadFault, read_whole};

@@ -1,0 +1,54 @@
+//! The reading of a file.
+
+ghost use Rattle.std.specs.Prelude.{◌≡◌};
+ghost use Rattle.whole_file.specs.Reading.{ReadsWhole, mapped};
+
+use spec_base::Name;
+use std::alloc::Global;
+use world_io::{BLOCK, Fetch, Look, Store};
+
+/// The longest file that is fetched: 64 MiB.
+pub const FILE_LIMIT: u64 = 67_108_864;
+
+/// Why a file wasn't read.
+#[derive(Clone, Copy, Debug, PartialEq, Eq)]
+pub enum ReadFault {
+    /// The store has no file of this name.
+    Absent,
+    /// The file has more than 64 MiB. None of it was fetched.
+    TooLong,
+    /// The look or a fetch failed.
+    Failed,
+    /// An allocation was refused.
+    NoMemory,
+}
+
+/// The bytes of the file: looks for it, and fetches its blocks in ascending order. The contract names
+/// each call on the store. What the bytes are is known where the store tells its files.
+pub fn read_whole<D: Store>(alloc: Global, name: &Name, store: &mut D) -> Result<Vec<u8>, ReadFault>
+    ensures { ReadsWhole (D.state store.old) name.now (mapped (λ v. v.items) result) (D.state store.new) }
+{
+    let size = match store.look(name) {
+        Look::Found(size) => size,
+        Look::Absent => return Err(ReadFault::Absent),
+        Look::Failed => return Err(ReadFault::Failed),
+    };
+    if size > FILE_LIMIT {
+        return Err(ReadFault::TooLong);
+    }
+    let Ok(mut bytes) = Vec::with_capacity(alloc, size as usize) else {
+        return Err(ReadFault::NoMemory);
+    };
+    let mut staging = [0u8; BLOCK];
+    for block in 0..(size + 4095) / 4096 {
+        match store.fetch(name, block, &mut staging) {
+            Fetch::Got(count) => {
+                if bytes.extend_from_slice(&staging[..count]).is_err() {
+                    return Err(ReadFault::NoMemory);
+                }
+            }
+            Fetch::Failed => return Err(ReadFault::Failed),
+        }
+    }
+    Ok(bytes)
+}
