@@ -3,7 +3,7 @@ use Rattle.std.proofs.Common.{◌≡◌, ℕ, zero, suc, ◌-◌, Bool, List, []
 use Rattle.std.specs.Map.{lookup}
 use Rattle.std.proofs.lemmas.Bool.{cases_Bool}
 use Rattle.spec_base.specs.declared.spot.BlockSpot.{BlockSpot}
-use Rattle.world_io.specs.Outside.{Files}
+use Rattle.spec_base.specs.Files.{Files}
 use Rattle.program_model.specs.Cache.{same_block}
 use Rattle.cache_queue.specs.State.{CachedBlocks, CacheState, with_block, SameBytes}
 use Rattle.cache_queue.specs.Finishes.{padded_block, TrueTo, IsKept}

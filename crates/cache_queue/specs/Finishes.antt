@@ -1,7 +1,8 @@
 -- What a finish of a fetch says (this project's own).
 use Rattle.std.specs.Prelude.{◌≡◌, ℕ, ◌-◌, true, false, List, ◌++◌, length, replicate, Option, Some, None, IfSome}
 use Rattle.spec_base.specs.declared.spot.BlockSpot.{BlockSpot}
-use Rattle.world_io.specs.Outside.{Files, StoreState, Rose, Counts}
+use Rattle.spec_base.specs.Files.{Files}
+use Rattle.world_io.specs.Outside.{StoreState, Rose, Counts}
 use Rattle.world_io.specs.Fetches.{block_of}
 use Rattle.program_model.specs.Cache.{Cache, in_flight, landed, kept}
 use Rattle.cache_queue.specs.State.{CachedBlocks, CacheState, lists, bytes_of, with_block}

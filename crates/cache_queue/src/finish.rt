@@ -1,7 +1,8 @@
 //! Finishing fetches.
 
 ghost use Rattle.std.specs.Prelude.{◌≡◌, ◌++◌, true, false, not, length, replicate, IfSome, Some, None};
-ghost use Rattle.world_io.specs.Outside.{KeepsFiles, Rose, Counts, Files};
+ghost use Rattle.world_io.specs.Outside.{KeepsFiles, Rose, Counts};
+ghost use Rattle.spec_base.specs.Files.{Files};
 ghost use Rattle.program_model.specs.Cache.{holds};
 ghost use Rattle.cache_queue.specs.State.{lists};
 ghost use Rattle.cache_queue.specs.Finishes.{padded_block, IsOf, finished, with_finished, IsKept, FinishTells, FinishFails, FinishCounts, TrueTo};

@@ -1,5 +1,5 @@
 use Rattle.std.proofs.Common.{◌≡◌, None, refl, sym, subst}
-use Rattle.world_io.specs.Outside.{Files}
+use Rattle.spec_base.specs.Files.{Files}
 use Rattle.cache_queue.specs.State.{CacheState}
 use Rattle.cache_queue.specs.Flights.{state_of}
 use Rattle.cache_queue.specs.Finishes.{TrueTo, padded_block}
