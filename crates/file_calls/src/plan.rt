@@ -1,11 +1,11 @@
 //! What a call does before the store and the sinks are asked.
 
-ghost use Rattle.std.specs.Prelude.{◌≡◌, ℕ, ◌+◌, ◌<◌, ◌≤◌, ◌^◌, pos, ◌+ℤ◌, IfOk, IfSome, slice_index};
+ghost use Rattle.std.specs.Prelude.{◌≡◌, ℕ, ◌+◌, ◌<◌, ◌≤◌, ◌^◌, pos, ◌+ℤ◌, IfOk, IfSome, slice_index, Some};
 ghost use Rattle.program_model.specs.Descriptors.{slot};
 ghost use Rattle.program_model.specs.Calls as calls;
 ghost use Rattle.rv_model.specs.Arithmetic.{signed};
 ghost use Rattle.file_calls.specs.Data.{data_in, memory_in};
-ghost use Rattle.file_calls.specs.Plans.{plan_shown, opening_shown, reading_shown, offset_at, ReadBounds, PlanBounds};
+ghost use Rattle.file_calls.specs.Plans.{plan_shown, opening_shown, reading_shown, offset_at, left, ReadBounds, PlanBounds};
 
 use crate::answers::{
     BAD_ADDRESS, BAD_DESCRIPTOR, INVALID_ARGUMENT, NO_FREE_DESCRIPTOR, NO_SUCH_CALL, NOT_SEEKABLE,
@@ -181,6 +181,47 @@ impl Files {
             Call::Exit => CallPlan::Exit((a[0] % 256) as u8),
             Call::Break => settled(self.with_break(a[0])),
             Call::Unknown => CallPlan::Set(*self, NO_SUCH_CALL),
+        }
+    }
+
+    /// The key of this call, which a hint for it has too: 64 times the offset and the descriptor, and
+    /// 1, for a read of a file that isn't refused, and 0 for every other call.
+    pub fn key<B: Bytes>(&self, number: u64, a: [u64; 3], mem: &B) -> u64
+        ensures { result ≡ calls.key_of (calls.call_plan (data_in (B.byte_at mem.now)) (memory_in (B.byte_at mem.now)) self.now number (slice_index a 0) (slice_index a 1) (slice_index a 2)) }
+    {
+        match self.plan(number, a, mem) {
+            CallPlan::Read(spot, _) => 64 * spot.offset + a[0] + 1,
+            _ => 0,
+        }
+    }
+
+    /// After a look has found a file of this size: the lowest free descriptor stands for it, and is
+    /// the answer. Where none is free, the call is refused.
+    pub fn opened(&self, name: Name, size: u64) -> (Files, i64)
+        requires { size < 2 ^ 56 }
+        ensures { result ≡ calls.opened self.now name (Some size) }
+    {
+        match self.lowest_free() {
+            Some(number) => {
+                let file = OpenFile::new(name, size, 0);
+                (self.with_slot(number as u64, Descriptor::File(file)), number as i64)
+            }
+            None => (*self, NO_FREE_DESCRIPTOR),
+        }
+    }
+
+    /// After a read has filled this many bytes: the offset of the descriptor's file has grown by
+    /// them. They are no more than the file has left from its offset on.
+    pub fn after_read(&self, descriptor: u64, count: u64) -> Files
+        requires { count ≤ left (slot self.now descriptor) }
+        ensures { result ≡ calls.after_read self.now descriptor count }
+    {
+        match self.slot(descriptor) {
+            Descriptor::File(file) => {
+                let read = OpenFile::new(file.name(), file.size(), file.offset() + count);
+                self.with_slot(descriptor, Descriptor::File(read))
+            }
+            other => self.with_slot(descriptor, other),
         }
     }
 }
