@@ -1,7 +1,8 @@
 -- The plans of the code as the call table's (this project's own).
-use Rattle.std.specs.Prelude.{ℕ, ◌-◌, ◌*◌, ◌^◌, ◌<◌, ◌≤◌, Bool, true, false, ℤ, pos, negsuc, nat_lt, Option, Some, None, Result, Ok, Err}
+use Rattle.std.specs.Prelude.{ℕ, ◌-◌, ◌*◌, ◌^◌, ◌<◌, ◌≤◌, Bool, true, false, IsTrue, ℤ, pos, negsuc, nat_lt, Option, Some, None, Result, Ok, Err}
 use Rattle.spec_base.specs.Files.{Name}
 use Rattle.spec_base.specs.declared.spot.ReadSpot.{ReadSpot}
+use Rattle.rv_model.specs.Memory.{all_from}
 use Rattle.program_model.specs.Descriptors.{Descriptor, Free, File, Descriptors, slot, with_slot, EINVAL}
 use Rattle.program_model.specs.Calls as calls
 use Rattle.program_model.specs.Calls.{CallKind, OpenAt, Seek, ReadFile, WriteFile, ExitProgram, Break, Unknown, Look, Set}
@@ -71,3 +72,9 @@ abbrev pub PlanBounds : Descriptors → ℕ → CallPlan → Type 0
 PlanBounds f d (plan.Read spot address) = ReadBounds f d spot
 PlanBounds f d (plan.Write to_out address count) = (0 < count) × (count ≤ 65536)
 PlanBounds f d other = Unit {0}
+
+-- what a plan reads to, or puts, is data
+abbrev pub IsOnData : (ℕ → Bool) → CallPlan → Type 0
+IsOnData data_at (plan.Read spot address) = IsTrue (all_from data_at address spot.count)
+IsOnData data_at (plan.Write to_out address count) = IsTrue (all_from data_at address count)
+IsOnData data_at other = Unit {0}

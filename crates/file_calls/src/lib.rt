@@ -8,6 +8,8 @@ mod descriptor;
 mod files;
 mod memory;
 mod plan;
+#[cfg(test)]
+mod tests;
 
 pub use files::Files;
 pub use plan::CallPlan;

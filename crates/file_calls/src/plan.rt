@@ -1,11 +1,12 @@
 //! What a call does before the store and the sinks are asked.
 
-ghost use Rattle.std.specs.Prelude.{◌≡◌, ℕ, ◌+◌, ◌<◌, ◌≤◌, ◌^◌, pos, ◌+ℤ◌, IfOk, IfSome, slice_index, Some};
+ghost use Rattle.std.specs.Prelude.{◌≡◌, ℕ, ◌+◌, ◌<◌, ◌≤◌, ◌^◌, pos, ◌+ℤ◌, IfOk, IfSome, IsTrue, slice_index, Some};
 ghost use Rattle.program_model.specs.Descriptors.{slot};
 ghost use Rattle.program_model.specs.Calls as calls;
 ghost use Rattle.rv_model.specs.Arithmetic.{signed};
 ghost use Rattle.file_calls.specs.Data.{data_in, memory_in};
-ghost use Rattle.file_calls.specs.Plans.{plan_shown, opening_shown, reading_shown, offset_at, left, ReadBounds, PlanBounds};
+ghost use Rattle.file_calls.specs.Plans.{plan_shown, opening_shown, reading_shown, offset_at, left, ReadBounds, PlanBounds, IsOnData};
+ghost use Rattle.rv_model.specs.Memory.{all_from};
 
 use crate::answers::{
     BAD_ADDRESS, BAD_DESCRIPTOR, INVALID_ARGUMENT, NO_FREE_DESCRIPTOR, NO_SUCH_CALL, NOT_SEEKABLE,
@@ -58,6 +59,7 @@ impl Files {
     fn open_plan<B: Bytes>(&self, name: u64, flags: u64, mem: &B) -> CallPlan
         ensures plan { (d : ℕ) → plan_shown d result ≡ calls.open_plan (data_in (B.byte_at mem.now)) (memory_in (B.byte_at mem.now)) self.now name flags }
         ensures bounds { (d : ℕ) → PlanBounds self.now d result }
+        ensures data { IsOnData (data_in (B.byte_at mem.now)) result }
     {
         match self.opening(name, flags, mem) {
             Ok(name) => CallPlan::Open(name),
@@ -106,6 +108,7 @@ impl Files {
     fn reading<B: Bytes>(&self, descriptor: u64, address: u64, asked: u64, mem: &B) -> Result<ReadSpot, i64>
         ensures plan { reading_shown self.now descriptor address result ≡ calls.read_plan (data_in (B.byte_at mem.now)) self.now descriptor (slot self.now descriptor) address asked }
         ensures bounds { IfOk result (λ spot. ReadBounds self.now descriptor spot) }
+        ensures data { IfOk result (λ spot. IsTrue (all_from (data_in (B.byte_at mem.now)) address spot.count)) }
     {
         let Descriptor::File(file) = self.slot(descriptor) else {
             return Err(BAD_DESCRIPTOR);
@@ -126,6 +129,7 @@ impl Files {
     fn writing<B: Bytes>(&self, descriptor: u64, address: u64, asked: u64, mem: &B) -> CallPlan
         ensures plan { plan_shown descriptor result ≡ calls.write_plan (data_in (B.byte_at mem.now)) self.now (slot self.now descriptor) address asked }
         ensures bounds { PlanBounds self.now descriptor result }
+        ensures data { IsOnData (data_in (B.byte_at mem.now)) result }
     {
         match self.slot(descriptor) {
             Descriptor::Out => self.putting(true, address, asked.min(MOST_BYTES), mem),
@@ -139,6 +143,7 @@ impl Files {
         requires { count ≤ 65536 }
         ensures plan { (d : ℕ) → plan_shown d result ≡ calls.put_plan (data_in (B.byte_at mem.now)) self.now to_out address count }
         ensures bounds { (d : ℕ) → PlanBounds self.now d result }
+        ensures data { IsOnData (data_in (B.byte_at mem.now)) result }
     {
         if !all_data(mem, address, count) {
             CallPlan::Set(*self, BAD_ADDRESS)
@@ -167,6 +172,7 @@ impl Files {
     pub fn plan<B: Bytes>(&self, number: u64, a: [u64; 3], mem: &B) -> CallPlan
         ensures plan { plan_shown (slice_index a 0) result ≡ calls.call_plan (data_in (B.byte_at mem.now)) (memory_in (B.byte_at mem.now)) self.now number (slice_index a 0) (slice_index a 1) (slice_index a 2) }
         ensures bounds { PlanBounds self.now (slice_index a 0) result }
+        ensures data { IsOnData (data_in (B.byte_at mem.now)) result }
     {
         match Call::with_number(number) {
             Call::Open => self.open_plan(a[0], a[1], mem),
