@@ -74,3 +74,123 @@ fn answers_by_the_table(rt: HostRuntime) -> Result<(), Fail> {
     }
     Ok(())
 }
+
+// Memory with this name and a zero at its start, and no byte after the zero.
+fn named(alloc: Global, name: &[u8]) -> Result<Stretch, AllocError> {
+    let mut bytes = Vec::from_slice(alloc, name)?;
+    bytes.push(0)?;
+    Ok(Stretch {
+        start: START,
+        hole: 0,
+        bytes,
+    })
+}
+
+#[test]
+fn reads_names_up_to_their_zero(rt: HostRuntime) -> Result<(), Fail> {
+    let files = Files::new(0x2000, 0x3FF0_0000);
+    for (length, answer) in &[(0usize, -2i64), (1, 3), (255, 3), (256, -36), (257, -36)] {
+        let letters = vec![in rt.alloc(); b'a'; *length]?;
+        let mem = named(rt.alloc(), &letters)?;
+        let (_, given) = performed(&files, 1024, [START, 0, 0], &mem);
+        assert_eq!(rt; given, *answer);
+        // openat takes its name from the second argument
+        let (_, given) = performed(&files, 56, [0, START, 4], &mem);
+        assert_eq!(rt; given, *answer);
+        // the flags are tested before the name
+        let (_, given) = performed(&files, 1024, [0, 1, 0], &mem);
+        assert_eq!(rt; given, -22);
+    }
+    Ok(())
+}
+
+#[test]
+fn refuses_names_that_leave_the_data(rt: HostRuntime) -> Result<(), Fail> {
+    let files = Files::new(0x2000, 0x3FF0_0000);
+    // the bytes, none of them zero, go on to what isn't data before and after the 256th
+    for (length, hole, answer) in &[
+        (255usize, 0u64, -14i64),
+        (256, 0, -36),
+        (400, START + 255, -14),
+        (400, START + 256, -36),
+        (400, START, -14),
+    ] {
+        let mem = ones(rt.alloc(), *length, *hole)?;
+        let (_, given) = performed(&files, 1024, [START, 0, 0], &mem);
+        assert_eq!(rt; given, *answer);
+    }
+    let mut top = ones(rt.alloc(), 2, 0)?;
+    top.start = u64::MAX - 1;
+    let (_, given) = performed(&files, 1024, [u64::MAX, 0, 0], &top);
+    assert_eq!(rt; given, -14);
+    Ok(())
+}
+
+#[test]
+fn opens_the_lowest_free_descriptor(rt: HostRuntime) -> Result<(), Fail> {
+    let mem = named(rt.alloc(), b"data")?;
+    let mut files = Files::new(0x2000, 0x3FF0_0000);
+    for number in 3i64..32 {
+        let (after, answer) = performed(&files, 1024, [START, 0, 0], &mem);
+        assert_eq!(rt; answer, number);
+        files = after;
+    }
+    // all are taken: the name is tested before, and nothing is looked for
+    let (_, answer) = performed(&files, 1024, [START, 0, 0], &mem);
+    assert_eq!(rt; answer, -24);
+    let (_, answer) = performed(&files, 1024, [0, 0, 0], &mem);
+    assert_eq!(rt; answer, -14);
+    for number in &[31u64, 0, 7] {
+        let (closed, answer) = performed(&files, 57, [*number, 0, 0], &mem);
+        assert_eq!(rt; answer, 0);
+        let (_, answer) = performed(&closed, 57, [*number, 0, 0], &mem);
+        assert_eq!(rt; answer, -9);
+        let (_, answer) = performed(&closed, 1024, [START, 0, 0], &mem);
+        assert_eq!(rt; answer.cast_unsigned(), *number);
+    }
+    for number in &[32u64, u64::MAX] {
+        let (_, answer) = performed(&files, 57, [*number, 0, 0], &mem);
+        assert_eq!(rt; answer, -9);
+        let (_, answer) = performed(&files, 62, [*number, 0, 0], &mem);
+        assert_eq!(rt; answer, -9);
+        let (_, answer) = performed(&files, 63, [*number, START, 1], &mem);
+        assert_eq!(rt; answer, -9);
+    }
+    Ok(())
+}
+
+const LEAST: u64 = 1 << 63;
+
+const END: u64 = 1 << 56;
+
+#[test]
+fn moves_to_offsets_below_their_end(rt: HostRuntime) -> Result<(), Fail> {
+    let mem = named(rt.alloc(), b"data")?;
+    let (opened, number) = performed(&Files::new(0x2000, 0x3FF0_0000), 1024, [START, 0, 0], &mem);
+    let number = number.cast_unsigned();
+    let (files, answer) = performed(&opened, 62, [number, 10, 0], &mem);
+    assert_eq!(rt; answer, 10);
+    for (distance, whence, answer) in &[
+        (LEAST, 2u64, -22i64),
+        (LEAST - 1, 0, -22),
+        (LEAST - 1, 1, -22),
+        (u64::MAX, 0, -22),
+        (u64::MAX - 10, 1, -22),
+        (u64::MAX - 9, 1, 0),
+        (u64::MAX - 999, 2, 0),
+        (0, 2, 1000),
+        (END - 1, 0, (END - 1) as i64),
+        (END, 0, -22),
+        (END - 11, 1, (END - 1) as i64),
+        (END - 10, 1, -22),
+        (END - 1001, 2, (END - 1) as i64),
+        (0, 3, -22),
+        (0, u64::MAX, -22),
+    ] {
+        let (after, given) = performed(&files, 62, [number, *distance, *whence], &mem);
+        assert_eq!(rt; given, *answer);
+        let (_, stands) = performed(&after, 62, [number, 0, 1], &mem);
+        assert_eq!(rt; stands, if *answer < 0 { 10 } else { *answer });
+    }
+    Ok(())
+}
