@@ -1,5 +1,5 @@
 -- A byte more of a stretch of memory, and of a name.
-use Rattle.std.proofs.Common.{◌≡◌, ℕ, suc, ◌+◌, ◌-◌, ◌<◌, ◌≤◌, ◌∙◌, Bool, true, false, List, [], ◌∷◌, ◌++◌, length, refl, ap, sym, arith, length-append, Option, Some, None}
+use Rattle.std.proofs.Common.{◌≡◌, ℕ, suc, ◌+◌, ◌-◌, ◌<◌, ◌≤◌, ◌∙◌, Bool, true, false, List, [], ◌∷◌, ◌++◌, length, ap, sym, arith, length-append, Option, Some, None}
 use Rattle.std.proofs.lemmas.Bool.Decides.{nat_tests}
 use Rattle.std.specs.Prelude.{◌==◌, is_some, unwrap_or}
 use Rattle.rv_model.specs.Memory.{Memory, all_from}
@@ -53,10 +53,10 @@ unfolding name_from
 name_from-suc d m a n b bytes e f = rw (e, name_from) (ap (λ (x : ℕ). after_byte d m a n x bytes (x == 0)) f)
 
 name_from-byte : (f : ℕ → Option ℕ) (a n b : ℕ) (bytes : List ℕ) → byte_in f a ≡ Some b → (b == 0) ≡ false
-  → name_from (data_in f) (memory_in f) a (suc n) bytes ≡ name_from (data_in f) (memory_in f) (a + 1) n (bytes ++ b ∷ [])
+    → name_from (data_in f) (memory_in f) a (suc n) bytes ≡ name_from (data_in f) (memory_in f) (a + 1) n (bytes ++ b ∷ [])
 name_from-byte f a n b bytes e p =
     name_from-suc (data_in f) (memory_in f) a n b bytes (ap (λ (o : Option ℕ). is_some o) e) (ap (λ (o : Option ℕ). unwrap_or o 0) e)
-      ∙ ap (after_byte (data_in f) (memory_in f) a n b bytes) p
+    ∙ ap (after_byte (data_in f) (memory_in f) a n b bytes) p
 
 name_from-end : (f : ℕ → Option ℕ) (a n : ℕ) (bytes : List ℕ) → byte_in f a ≡ Some 0 → name_from (data_in f) (memory_in f) a (suc n) bytes ≡ Whole bytes
 name_from-end f a n bytes e =
@@ -77,9 +77,9 @@ IsInName-next f a k b bytes more name h e p q =
     record {
       few = ap length q ∙ (length-append bytes (b ∷ []) ∙ ap (λ (n : ℕ). n + 1) name.few);
       same =
-        name.same
+          name.same
           ∙ (rw (less_one k 256 h, ← one_past a k) (name_from-byte f (a + k) (256 - (k + 1)) b bytes e (not_zero b p))
-              ∙ ap (name_from (data_in f) (memory_in f) (a + (k + 1)) (256 - (k + 1))) (sym q))
+          ∙ ap (name_from (data_in f) (memory_in f) (a + (k + 1)) (256 - (k + 1))) (sym q));
     }
 
 -- a zero byte ends it

@@ -1,25 +1,25 @@
 -- A call's plan depends on memory only where it is data.
-use Rattle.std.proofs.Common.{◌≡◌, ℕ, zero, suc, ◌+◌, ◌∙◌, Bool, true, false, List, [], ◌∷◌, ◌++◌, refl, ap, sym, arith}
+use Rattle.std.proofs.Common.{◌≡◌, ℕ, zero, suc, ◌+◌, ◌∙◌, Bool, true, false, List, [], ◌∷◌, ◌++◌, refl, ap, sym}
 use Rattle.std.specs.Prelude.{◌%◌, ◌==◌}
 use Rattle.std.proofs.Math.Path.{fun_ext}
 use Rattle.rv_model.specs.Memory.{Memory}
 use Rattle.program_model.specs.Descriptors.{Descriptors, EINVAL}
-use Rattle.program_model.specs.Calls.{Named, Refused, Whole, name_from, name_at, not_empty, open_named, open_plan, CallKind, Open, OpenAt, Close, Seek, ReadFile, WriteFile, ExitProgram, Break, Unknown, CallPlan, Set, plan_by, call_plan, kind_of}
+use Rattle.program_model.specs.Calls.{Named, name_from, not_empty, open_named, open_plan, CallKind, Open, OpenAt, Close, Seek, ReadFile, WriteFile, ExitProgram, Break, Unknown, Set, plan_by, call_plan, kind_of}
 use Rattle.file_calls.proofs.DataLemmas.{after_byte, name_from-suc, name_from-fault}
 
 module _ (d : ℕ → Bool) (m m' : Memory) (same : (a : ℕ) → d a ≡ true → m a ≡ m' a) where
   after_byte-agrees : (a n b : ℕ) (bytes : List ℕ) (is_end : Bool)
-    → ((bytes : List ℕ) → name_from d m (a + 1) n bytes ≡ name_from d m' (a + 1) n bytes)
-    → after_byte d m a n b bytes is_end ≡ after_byte d m' a n b bytes is_end
+      → ((bytes : List ℕ) → name_from d m (a + 1) n bytes ≡ name_from d m' (a + 1) n bytes)
+      → after_byte d m a n b bytes is_end ≡ after_byte d m' a n b bytes is_end
   after_byte-agrees a n b bytes true rest = refl
   after_byte-agrees a n b bytes false rest = rest (bytes ++ b ∷ [])
 
   name_from-one : (n a : ℕ) (bytes : List ℕ) (is_data : Bool) → d a ≡ is_data
-    → ((bytes : List ℕ) → name_from d m (a + 1) n bytes ≡ name_from d m' (a + 1) n bytes)
-    → name_from d m a (suc n) bytes ≡ name_from d m' a (suc n) bytes
+      → ((bytes : List ℕ) → name_from d m (a + 1) n bytes ≡ name_from d m' (a + 1) n bytes)
+      → name_from d m a (suc n) bytes ≡ name_from d m' a (suc n) bytes
   name_from-one n a bytes true e rest =
       name_from-suc d m a n (m' a) bytes e (same a e)
-        ∙ (after_byte-agrees a n (m' a) bytes (m' a == 0) rest ∙ sym (name_from-suc d m' a n (m' a) bytes e refl))
+      ∙ (after_byte-agrees a n (m' a) bytes (m' a == 0) rest ∙ sym (name_from-suc d m' a n (m' a) bytes e refl))
   name_from-one n a bytes false e rest = name_from-fault d m a n bytes e ∙ sym (name_from-fault d m' a n bytes e)
 
   name_from-agrees : (n a : ℕ) (bytes : List ℕ) → name_from d m a n bytes ≡ name_from d m' a n bytes
@@ -44,7 +44,7 @@ module _ (d : ℕ → Bool) (m m' : Memory) (same : (a : ℕ) → d a ≡ true �
 
 -- two memories with the same data, and the same bytes there, give each call the same plan
 pub call_plan-agrees : (d d' : ℕ → Bool) (m m' : Memory) → ((a : ℕ) → d a ≡ d' a) → ((a : ℕ) → d a ≡ true → m a ≡ m' a)
-  → (f : Descriptors) (number x10 x11 x12 : ℕ) → call_plan d m f number x10 x11 x12 ≡ call_plan d' m' f number x10 x11 x12
+    → (f : Descriptors) (number x10 x11 x12 : ℕ) → call_plan d m f number x10 x11 x12 ≡ call_plan d' m' f number x10 x11 x12
 call_plan-agrees d d' m m' same_data same f number x10 x11 x12 =
     plan_by-agrees d m m' same f (kind_of number) x10 x11 x12
-      ∙ ap (λ (t : ℕ → Bool). call_plan t m' f number x10 x11 x12) (fun_ext same_data)
+    ∙ ap (λ (t : ℕ → Bool). call_plan t m' f number x10 x11 x12) (fun_ext same_data)

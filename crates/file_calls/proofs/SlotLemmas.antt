@@ -1,5 +1,5 @@
 -- The code's descriptors and the definition's.
-use Rattle.std.proofs.Common.{◌≡◌, ℕ, ◌+◌, List, [], ◌∷◌, refl, Option, Some, None}
+use Rattle.std.proofs.Common.{◌≡◌, ℕ, ◌+◌, List, [], ◌∷◌, refl}
 use Rattle.std.specs.Prelude.{map}
 use Rattle.std.specs.List.{position_from}
 use Rattle.program_model.specs.Descriptors.{lowest_free}

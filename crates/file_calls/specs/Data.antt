@@ -1,5 +1,5 @@
 -- Which addresses are data, and the bytes there, as the call table asks for them (this project's own).
-use Rattle.std.specs.Prelude.{ℕ, ◌^◌, Bool, true, false, nat_lt, Option, Some, None, is_some, unwrap_or, ℤ, Result, Ok, Err}
+use Rattle.std.specs.Prelude.{ℕ, ◌^◌, Bool, true, false, nat_lt, Option, None, is_some, unwrap_or, ℤ, Result, Ok, Err}
 use Rattle.spec_base.specs.Files.{Name}
 use Rattle.rv_model.specs.Memory.{Memory}
 use Rattle.program_model.specs.Calls.{Named, Refused, Whole}

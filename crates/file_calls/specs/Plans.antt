@@ -1,9 +1,9 @@
 -- The plans of the code as the call table's (this project's own).
-use Rattle.std.specs.Prelude.{ℕ, ◌-◌, ◌*◌, ◌^◌, ◌<◌, ◌≤◌, Bool, true, false, IsTrue, ℤ, pos, negsuc, nat_lt, Option, Some, None, Result, Ok, Err}
+use Rattle.std.specs.Prelude.{ℕ, ◌-◌, ◌^◌, ◌<◌, ◌≤◌, Bool, true, false, IsTrue, ℤ, pos, negsuc, nat_lt, Option, Some, None, Result, Ok, Err}
 use Rattle.spec_base.specs.Files.{Name}
 use Rattle.spec_base.specs.declared.spot.ReadSpot.{ReadSpot}
 use Rattle.rv_model.specs.Memory.{all_from}
-use Rattle.program_model.specs.Descriptors.{Descriptor, Free, File, Descriptors, slot, with_slot, EINVAL}
+use Rattle.program_model.specs.Descriptors.{Descriptor, File, Descriptors, slot, with_slot, EINVAL}
 use Rattle.program_model.specs.Calls as calls
 use Rattle.program_model.specs.Calls.{CallKind, OpenAt, Seek, ReadFile, WriteFile, ExitProgram, Break, Unknown, Look, Set}
 use Rattle.file_calls.specs.declared.call.Call.{Call}

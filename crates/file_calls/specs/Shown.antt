@@ -1,8 +1,6 @@
 -- What the descriptors of the code stand for (this project's own).
-use Rattle.std.specs.Prelude.{◌≡◌, ℕ, Bool, true, false, List, [], ◌∷◌, map, refl}
-use Rattle.std.proofs.Common.{ap}
-use Rattle.program_model.specs.Descriptors.{Descriptor, Free, Null, Out, Err, File, Descriptors}
-use Rattle.file_calls.specs.FileState.{FileState}
+use Rattle.std.specs.Prelude.{◌≡◌, Bool, true, false, List, [], ◌∷◌, map, refl}
+use Rattle.program_model.specs.Descriptors.{Descriptor, Free, Null, Out, Err, File}
 use Rattle.file_calls.specs.declared.descriptor.Descriptor.{Descriptor as Slot}
 use Rattle.file_calls.specs.declared.descriptor.Descriptor.TheVariants.{Free as FreeSlot, Null as NullSlot, Out as OutSlot, Err as ErrSlot, File as FileSlot}
 

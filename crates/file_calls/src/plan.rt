@@ -89,7 +89,13 @@ impl Files {
     }
 
     // Moves a descriptor of this file.
-    fn moved_file(&self, descriptor: u64, file: &OpenFile, distance: u64, whence: u64) -> (Files, i64)
+    fn moved_file(
+        &self,
+        descriptor: u64,
+        file: &OpenFile,
+        distance: u64,
+        whence: u64,
+    ) -> (Files, i64)
         ensures { calls.Set result.0 result.1 ≡ calls.seek_from self.now descriptor file.now.name file.now.size distance (calls.seek_base file.now.offset file.now.size whence) }
     {
         let Some(base) = seek_base(file, whence) else {
@@ -98,14 +104,23 @@ impl Files {
         match offset_from(base, distance) {
             Some(offset) => {
                 let moved = OpenFile::new(file.name(), file.size(), offset);
-                (self.with_slot(descriptor, Descriptor::File(moved)), offset as i64)
+                (
+                    self.with_slot(descriptor, Descriptor::File(moved)),
+                    offset as i64,
+                )
             }
             None => (*self, INVALID_ARGUMENT),
         }
     }
 
     // What a read of a descriptor reads, or the answer that refuses it.
-    fn reading<B: Bytes>(&self, descriptor: u64, address: u64, asked: u64, mem: &B) -> Result<ReadSpot, i64>
+    fn reading<B: Bytes>(
+        &self,
+        descriptor: u64,
+        address: u64,
+        asked: u64,
+        mem: &B,
+    ) -> Result<ReadSpot, i64>
         ensures plan { reading_shown self.now descriptor address result ≡ calls.read_plan (data_in (B.byte_at mem.now)) self.now descriptor (slot self.now descriptor) address asked }
         ensures bounds { IfOk result (λ spot. ReadBounds self.now descriptor spot) }
         ensures data { IfOk result (λ spot. IsTrue (all_from (data_in (B.byte_at mem.now)) address spot.count)) }
@@ -210,7 +225,10 @@ impl Files {
         match self.lowest_free() {
             Some(number) => {
                 let file = OpenFile::new(name, size, 0);
-                (self.with_slot(number as u64, Descriptor::File(file)), number as i64)
+                (
+                    self.with_slot(number as u64, Descriptor::File(file)),
+                    number as i64,
+                )
             }
             None => (*self, NO_FREE_DESCRIPTOR),
         }

@@ -194,3 +194,104 @@ fn moves_to_offsets_below_their_end(rt: HostRuntime) -> Result<(), Fail> {
     }
     Ok(())
 }
+
+// Descriptors of which 3 is a file of 100,000 bytes, at this offset.
+fn at_offset<B: Bytes>(mem: &B, offset: u64) -> Files {
+    let (files, _) = match Name::new(b"data") {
+        Some(name) => Files::new(0x2000, 0x3FF0_0000).opened(name, 100_000),
+        None => (Files::new(0x2000, 0x3FF0_0000), 0),
+    };
+    performed(&files, 62, [3, offset, 0], mem).0
+}
+
+#[test]
+fn reads_what_is_left(rt: HostRuntime) -> Result<(), Fail> {
+    let mem = ones(rt.alloc(), 65_537, 0)?;
+    for (offset, address, asked, answer) in &[
+        (0u64, START, 0u64, 0i64),
+        (0, START, 10, 10),
+        (0, START, 65_536, 65_536),
+        (0, START, 65_537, 65_536),
+        (7, START + 1, u64::MAX, 65_536),
+        (7, START + 2, u64::MAX, -14),
+        (7, START - 1, 1, -14),
+        (7, 0, 0, 0),
+        (99_999, START, 10, 1),
+        (100_000, START, 10, 0),
+        (100_001, 0, 10, 0),
+        (END - 1, 0, 10, 0),
+    ] {
+        let files = at_offset(&mem, *offset);
+        let (after, given) = performed(&files, 63, [3, *address, *asked], &mem);
+        assert_eq!(rt; given, *answer);
+        let refused = *answer < 0;
+        let key = files.key(63, [3, *address, *asked], &mem);
+        assert_eq!(rt; key, if refused { 0 } else { 64 * *offset + 4 });
+        let grown = if refused { 0 } else { answer.cast_unsigned() };
+        let (_, stands) = performed(&after, 62, [3, 0, 1], &mem);
+        assert_eq!(rt; stands.cast_unsigned(), offset.wrapping_add(grown));
+        assert_eq!(rt; files.key(64, [1, *address, *asked], &mem), 0);
+    }
+    Ok(())
+}
+
+#[test]
+fn writes_to_the_two_outputs_alone(rt: HostRuntime) -> Result<(), Fail> {
+    let mem = ones(rt.alloc(), 65_537, 0)?;
+    let files = at_offset(&mem, 0);
+    for (number, address, asked, answer) in &[
+        (1u64, START, 65_536u64, 65_536i64),
+        (2, START + 1, 65_537, 65_536),
+        (1, START + 2, u64::MAX, -14),
+        (2, START + 65_537, 1, -14),
+        (0, START, 1, -9),
+        (3, START, 1, -9),
+        (4, START, 1, -9),
+        (32, START, 0, -9),
+        (u64::MAX, START, 1, -9),
+    ] {
+        match files.plan(64, [*number, *address, *asked], &mem) {
+            CallPlan::Write(to_out, at, count) => {
+                assert_eq!(rt; to_out, *number == 1);
+                assert_eq!(rt; at, *address);
+                assert_eq!(rt; count as i64, *answer);
+            }
+            CallPlan::Set(_, given) => assert_eq!(rt; given, *answer),
+            _ => panic!(rt; "a write is put or answered"),
+        }
+    }
+    // a write of no bytes is answered, and no byte need be data
+    assert!(rt; matches!(files.plan(64, [2, 0, 0], &mem), CallPlan::Set(_, 0)));
+    Ok(())
+}
+
+#[test]
+fn keeps_the_break_between_its_limits(rt: HostRuntime) -> Result<(), Fail> {
+    let mem = ones(rt.alloc(), 1, 0)?;
+    for most in &[0x0FF0_0000u64, 0x3FF0_0000] {
+        let files = Files::new(0x10090, *most);
+        let (moved, answer) = performed(&files, 214, [*most, 0, 0], &mem);
+        assert_eq!(rt; answer.cast_unsigned(), *most);
+        for (to, answer) in &[
+            (0x10090u64, 0x10090u64),
+            (0x1008F, *most),
+            (most.wrapping_add(1), *most),
+            (0, *most),
+        ] {
+            let (_, given) = performed(&moved, 214, [*to, 0, 0], &mem);
+            assert_eq!(rt; given.cast_unsigned(), *answer);
+        }
+    }
+    Ok(())
+}
+
+#[test]
+fn exits_with_the_low_byte(rt: HostRuntime) -> Result<(), Fail> {
+    let mem = ones(rt.alloc(), 1, 0)?;
+    let files = Files::new(0x2000, 0x3FF0_0000);
+    for number in &[93u64, 94] {
+        let plan = files.plan(*number, [0x107, 0, 0], &mem);
+        assert!(rt; matches!(plan, CallPlan::Exit(7)));
+    }
+    Ok(())
+}

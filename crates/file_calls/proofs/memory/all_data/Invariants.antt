@@ -7,4 +7,4 @@ use Rattle.file_calls.proofs.memory.all_data.Given as goal
 abbrev pub invariant-loop-distance : goal.invariant-loop-distance
 invariant-loop-distance g l =
     all_from (data_in (g.B.Bytes.byte_at l.mem)) l.address l.count
-      ≡ all_from (data_in (g.B.Bytes.byte_at l.mem)) (l.address + l.distance) (l.count - l.distance)
+    ≡ all_from (data_in (g.B.Bytes.byte_at l.mem)) (l.address + l.distance) (l.count - l.distance)
