@@ -1,8 +1,9 @@
 //! The file descriptors of a program, and its break.
 
-ghost use Rattle.std.specs.Prelude.{◌≡◌, ℕ, ◌+◌, ◌≤◌, ◌<◌, ◌^◌, pos, map, length, IfSome, IsTrue, nat_le, ◌&&◌};
-ghost use Rattle.program_model.specs.Descriptors.{Free, slot, with_slot, start_of, lowest_free};
 ghost use Rattle.std.specs.List.{position_from};
+ghost use Rattle.std.specs.Prelude.{◌≡◌, ◌≤◌, ◌<◌, ◌^◌, length, IfSome};
+ghost use Rattle.program_model.specs.Calls as calls;
+ghost use Rattle.program_model.specs.Descriptors.{Free, slot, with_slot, start_of, lowest_free};
 ghost use Rattle.file_calls.specs.Shown.{shown, is_free};
 
 use crate::descriptor::Descriptor;
@@ -56,7 +57,7 @@ impl Files {
     }
 
     /// Descriptor `number`; one of 32 or more is free.
-    pub fn slot(&self, number: u64) -> Descriptor
+    pub(crate) fn slot(&self, number: u64) -> Descriptor
         ensures same { shown result ≡ slot self.now number }
         ensures past { 32 ≤ number → shown result ≡ Free }
     {
@@ -67,7 +68,7 @@ impl Files {
     }
 
     /// The same with this descriptor changed; there is none of 32 or more.
-    pub fn with_slot(&self, number: u64, slot: Descriptor) -> Files
+    pub(crate) fn with_slot(&self, number: u64, slot: Descriptor) -> Files
         ensures { result ≡ with_slot self.now number (shown slot) }
     {
         let mut files = *self;
@@ -78,34 +79,24 @@ impl Files {
     }
 
     /// The lowest free descriptor.
-    pub fn lowest_free(&self) -> Option<usize>
+    pub(crate) fn lowest_free(&self) -> Option<usize>
         ensures same { result ≡ lowest_free self.now.slots 0 }
         ensures below { IfSome result (λ number. number < 32) }
     {
         first_free(&self.slots)
     }
 
-    /// The break.
-    pub fn break_at(&self) -> i64
-        ensures { result ≡ pos self.now.break_at }
+    /// The break moved to this address, if it may stand there, and the break after that.
+    pub(crate) fn with_break(&self, to: u64) -> (Files, i64)
+        ensures { calls.Set result.0 result.1 ≡ calls.break_plan self.now to }
     {
-        self.break_at as i64
-    }
-
-    /// Whether the break may stand at this address.
-    pub fn may_break_at(&self, to: u64) -> bool
-        ensures same { result ≡ (nat_le self.now.break_start to && nat_le to self.now.break_most) }
-        ensures small { IsTrue result → to < 2 ^ 63 }
-    {
-        self.break_start <= to && to <= self.break_most
-    }
-
-    /// Moves the break to an address where it may stand.
-    pub fn set_break(&mut self, to: u64)
-        requires { to ≤ self.old.break_most }
-        ensures { self.new ≡ record self.old { break_at = to } }
-    {
-        self.break_at = to;
+        if self.break_start <= to && to <= self.break_most {
+            let mut files = *self;
+            files.break_at = to;
+            (files, to as i64)
+        } else {
+            (*self, self.break_at as i64)
+        }
     }
 }
 

@@ -169,19 +169,6 @@ impl Files {
         }
     }
 
-    // The break moved to an address, where it may stand there.
-    fn with_break(&self, to: u64) -> (Files, i64)
-        ensures { calls.Set result.0 result.1 ≡ calls.break_plan self.now to }
-    {
-        if self.may_break_at(to) {
-            let mut files = *self;
-            files.set_break(to);
-            (files, to as i64)
-        } else {
-            (*self, self.break_at())
-        }
-    }
-
     /// What this call does before the store and the sinks are asked, by its number and its three
     /// arguments, and what memory has.
     pub fn plan<B: Bytes>(&self, number: u64, a: [u64; 3], mem: &B) -> CallPlan
