@@ -4,6 +4,7 @@ use Rattle.spec_base.specs.Files.{Name}
 use Rattle.rv_model.specs.Memory.{Memory}
 use Rattle.program_model.specs.Calls.{Named, Refused, Whole}
 
+-- a byte that is there only if the test holds
 abbrev pub byte_if : Bool → Option ℕ → Option ℕ
 byte_if true byte = byte
 byte_if false byte = None

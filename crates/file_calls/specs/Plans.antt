@@ -41,11 +41,12 @@ abbrev pub reading_shown : Descriptors → ℕ → ℕ → Result ReadSpot ℤ �
 reading_shown f d address (Ok spot) = calls.Read d spot address
 reading_shown f d address (Err answer) = Set f answer
 
--- the offset that a whole number is, if it is one: at least 0, and below 2^56
+-- an offset that is one only if the test holds
 abbrev pub offset_if : Bool → ℕ → Option ℕ
 offset_if true n = Some n
 offset_if false n = None
 
+-- the offset that a whole number is, if it is one: at least 0, and below 2^56
 abbrev pub offset_at : ℤ → Option ℕ
 offset_at (pos n) = offset_if (nat_lt n (2 ^ 56)) n
 offset_at (negsuc n) = None

@@ -1,12 +1,12 @@
 //! What a call does before the store and the sinks are asked.
 
-ghost use Rattle.std.specs.Prelude.{◌≡◌, ℕ, ◌+◌, ◌<◌, ◌≤◌, ◌^◌, pos, ◌+ℤ◌, IfOk, IfSome, IsTrue, slice_index, Some};
+ghost use Rattle.std.specs.Prelude.{◌≡◌, ℕ, ◌<◌, ◌≤◌, ◌^◌, pos, ◌+ℤ◌, IfOk, IfSome, IsTrue, slice_index};
 ghost use Rattle.program_model.specs.Descriptors.{slot};
 ghost use Rattle.program_model.specs.Calls as calls;
+ghost use Rattle.rv_model.specs.Memory.{all_from};
 ghost use Rattle.rv_model.specs.Arithmetic.{signed};
 ghost use Rattle.file_calls.specs.Data.{data_in, memory_in};
 ghost use Rattle.file_calls.specs.Plans.{plan_shown, opening_shown, reading_shown, offset_at, left, ReadBounds, PlanBounds, IsOnData};
-ghost use Rattle.rv_model.specs.Memory.{all_from};
 
 use crate::answers::{
     BAD_ADDRESS, BAD_DESCRIPTOR, INVALID_ARGUMENT, NO_FREE_DESCRIPTOR, NO_SUCH_CALL, NOT_SEEKABLE,
