@@ -1,0 +1,3 @@
+pub mod SlotLemmas
+pub mod DataLemmas
+pub mod PlanLemmas

@@ -1,0 +1,4 @@
+pub mod FileState
+pub mod Shown
+pub mod Data
+pub mod Plans

@@ -1,0 +1,15 @@
+//! The calls of a program: what each one does before the store and the sinks are asked, and what
+//! their answers make of the file descriptors and of the break. Nothing here takes memory.
+#![tactic(auto)]
+
+mod answers;
+mod call;
+mod descriptor;
+mod files;
+mod memory;
+mod plan;
+#[cfg(test)]
+mod tests;
+
+pub use files::Files;
+pub use plan::CallPlan;
