@@ -47,13 +47,25 @@ fn frames_share_no_byte(rt: HostRuntime) -> Result<(), Fail> {
     pool.write(&first, 4094, &[8, 9]);
     assert_eq!(rt; pool.bytes(&first)[4095], 9);
     assert_eq!(rt; count(pool.bytes(&first), 0), PAGE_BYTES - 2);
-    pool.give(first);
-    pool.give(second);
+    Ok(())
+}
+
+#[test]
+fn gives_a_blank_frame_again(rt: HostRuntime) {
+    let mut pool = Pool::new(rt.alloc(), 3);
+    assert_eq!(rt; pool.reserve(3), Ok(()));
+    let (Some(first), Some(second), Some(third)) = (pool.take(), pool.take(), pool.take()) else {
+        panic!(rt; "three frames were reserved");
+    };
+    pool.bytes_mut(&third).fill(7);
     pool.give(third);
+    pool.give(second);
+    pool.give(first);
     assert_eq!(rt; pool.in_use(), 0);
     assert_eq!(rt; pool.spare(), 3);
-    if let Some(again) = pool.take() {
-        assert_eq!(rt; count(pool.bytes(&again), 0), PAGE_BYTES);
+    for _ in 0..3 {
+        if let Some(again) = pool.take() {
+            assert_eq!(rt; count(pool.bytes(&again), 0), PAGE_BYTES);
+        }
     }
-    Ok(())
 }
