@@ -1,0 +1,10 @@
+//! The memory of a hart, in four views: the program range, the text, the code that a rewriter
+//! emits, and what its shadow and its stub keep.
+#![tactic(auto)]
+
+mod access;
+mod number;
+mod page_map;
+
+pub use access::{Access, StoreFault, Width};
+pub use rv_model::Bytes;

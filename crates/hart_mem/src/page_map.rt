@@ -1,0 +1,108 @@
+//! A flat memory in pages: each page has a frame of a pool, or none and reads as zero.
+
+ghost use Rattle.std.specs.Prelude.{◌≡◌, ◌≢◌, ◌+◌, ◌*◌, ◌/◌, ◌%◌, ◌^◌, ◌<◌, ◌≤◌, ◌||◌, ◌⊎◌, IsTrue, nat_lt, true, false, length, Err, IfOk, OnOk, OnErr};
+ghost use Rattle.rv_model.specs.Memory.{loaded, written};
+ghost use Rattle.hart_mem.specs.Paged.{flat, is_held, IsEmpty, IsHeldFrom, Keeps};
+
+use crate::number::number;
+use page_pool::{Frame, PAGE_BYTES, Pool, PoolFault};
+use spec_base::NoMemory;
+use std::alloc::Global;
+use std::marker::Model;
+
+/// A contract sees the frame's number of each page, and the pool.
+#[derive(Drop)]
+pub(crate) struct PageMap {
+    table: Vec<Option<Frame>>,
+    pool: Pool,
+}
+
+impl Model for PageMap {
+    ghost use Rattle.hart_mem.specs.Paged.{Paged};
+
+    ghost Value = { Paged };
+
+    ghost use Rattle.hart_mem.specs.Paged.{IsSound};
+
+    ghost view = { λ m. record { table = m.table.items; pool = m.pool } };
+
+    ghost invariant = { λ m. IsSound (record { table = m.table.items; pool = m.pool }) };
+}
+
+impl PageMap {
+    /// A memory of so many pages, none of which has a frame. The pool's bound leaves room for
+    /// each of them, and for 17 spare frames.
+    pub fn new(alloc: Global, pages: usize, most: usize) -> Result<PageMap, NoMemory>
+        requires { pages + 17 ≤ most }
+        ensures { IfOk result (λ map. IsEmpty map pages most) }
+    {
+        let mut table = Vec::new(alloc);
+        for _ in 0..pages {
+            table.push(None)?;
+        }
+        Ok(PageMap {
+            table,
+            pool: Pool::new(alloc, most),
+        })
+    }
+
+    /// How many frames are spare.
+    pub fn spare(&self) -> usize
+        ensures { result ≡ self.now.pool.spare }
+    {
+        self.pool.spare()
+    }
+
+    /// Whether a page has a frame.
+    pub fn is_held(&self, page: usize) -> bool
+        requires { page < length self.now.table }
+        ensures { result ≡ is_held self.now page }
+    {
+        self.table[page].is_some()
+    }
+
+    /// Gives a page a frame, where it has none. False where none is spare.
+    pub fn hold(&mut self, page: usize) -> bool
+        requires { page < length self.old.table }
+        ensures answer { result ≡ (is_held self.old page || nat_lt 0 self.old.pool.spare) }
+        ensures held { result ≡ true → IsTrue (is_held self.new page) }
+        ensures refused { result ≡ false → self.new ≡ self.old }
+        ensures keeps { Keeps self.old self.new }
+    {
+        if self.table[page].is_some() {
+            return true;
+        }
+        let Some(frame) = self.pool.take() else {
+            return false;
+        };
+        self.table[page] = Some(frame);
+        true
+    }
+
+    /// The number of the `size` bytes from a place on, which lie in one page.
+    pub fn load(&self, place: usize, size: usize) -> u64
+        requires size { size ≤ 8 }
+        requires inside { place / 4096 < length self.now.table }
+        requires fits { place % 4096 + size ≤ 4096 }
+        ensures value { result ≡ loaded (flat self.now) place size }
+        ensures bound { result < 2 ^ (8 * size) }
+    {
+        match &self.table[place / PAGE_BYTES] {
+            Some(frame) => number(self.pool.bytes(frame), place % PAGE_BYTES, size),
+            None => 0,
+        }
+    }
+
+    /// Writes bytes from a place on, all in one page, which has a frame.
+    pub fn write(&mut self, place: usize, bytes: &[u8])
+        requires held { IsTrue (is_held self.old (place / 4096)) }
+        requires fits { place % 4096 + length bytes.now ≤ 4096 }
+        ensures bytes { flat self.new ≡ written (flat self.old) place bytes.now }
+        ensures table { self.new.table ≡ self.old.table }
+        ensures spare { self.new.pool.spare ≡ self.old.pool.spare }
+    {
+        if let Some(frame) = &self.table[place / PAGE_BYTES] {
+            self.pool.write(frame, place % PAGE_BYTES, bytes);
+        }
+    }
+}
