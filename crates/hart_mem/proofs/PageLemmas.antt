@@ -11,7 +11,7 @@ use Rattle.rv_model.specs.Memory.{Memory, loaded, patched, written}
 use Rattle.page_pool.specs.Pages.{blank_page, overwritten}
 use Rattle.page_pool.specs.Frames.{Frames, frame_at, bytes_at, IsInUse, IsTaken, IsWritten, KeepsOthers}
 use Rattle.page_pool.proofs.PageLemmas.{length-blank_page, get_or-blank_page}
-use Rattle.hart_mem.specs.Paged.{Paged, IsPage, IsSound, Keeps, byte_in, flat, frame_of, is_held, page_bytes}
+use Rattle.hart_mem.specs.Paged.{Paged, IsPage, IsSound, KeepsPages, byte_in, flat, frame_of, is_held, page_bytes}
 use Rattle.hart_mem.proofs.Numbers.{loaded_same, loaded_zero}
 use Rattle.hart_mem.proofs.Pieces.{byte_in-overwritten, length-overwritten}
 
@@ -222,11 +222,21 @@ module _ (p : Paged) (sound : IsSound p) (new : Frames) (page k : ℕ) (inside :
         | inr apart ↦ rw (entry_else i apart) held
       ]
 
-  pub Keeps-held : Keeps p (record { table = set p.table page (Some k); pool = new })
-  Keeps-held =
-      record {
-        bytes = flat-held;
-        length = length-set p.table page (Some k);
-        held = held_after;
-        spare = omega (arith, taken.spare);
-      }
+  pub KeepsPages-held : KeepsPages p (record { table = set p.table page (Some k); pool = new })
+  KeepsPages-held = record { length = length-set p.table page (Some k); held = held_after }
+
+-- ---- pages kept
+
+pub KeepsPages-same : (old new : Paged) → new.table ≡ old.table → KeepsPages old new
+KeepsPages-same old new e =
+    record {
+      length = ap length e;
+      held = λ page held. subst (λ (t : List (Option ℕ)). let none : Option ℕ = None in IsTrue (is_some (get_or t page none))) (sym e) held;
+    }
+
+pub KeepsPages-then : (a b c : Paged) → KeepsPages a b → KeepsPages b c → KeepsPages a c
+KeepsPages-then a b c first second =
+    record {
+      length = second.length ∙ first.length;
+      held = λ page h. second.held page (first.held page h);
+    }

@@ -9,3 +9,10 @@ width_bytes One = 1
 width_bytes Two = 2
 width_bytes Four = 4
 width_bytes Eight = 8
+
+-- a number of bytes that a load or a store can take
+pub data IsWidth : ℕ → Type 0 where
+  one : IsWidth 1
+  two : IsWidth 2
+  four : IsWidth 4
+  eight : IsWidth 8

@@ -1,5 +1,5 @@
 -- A memory in pages of 4,096 bytes: each page has a frame of a pool, or none and reads as zero (this project's own).
-use Rattle.std.specs.Prelude.{◌≡◌, ℕ, ◌+◌, ◌/◌, ◌%◌, ◌<◌, ◌≤◌, List, [], length, count_by, Bool, true, IsTrue, Option, Some, None, is_some, slice_index, slice_index_or}
+use Rattle.std.specs.Prelude.{◌≡◌, ℕ, ◌+◌, ◌-◌, ◌/◌, ◌%◌, ◌<◌, ◌≤◌, List, [], length, count_by, Bool, true, IsTrue, Option, Some, None, is_some, slice_index, slice_index_or}
 use Rattle.rv_model.specs.Memory.{Memory}
 use Rattle.page_pool.specs.Frames.{Frames, frame_at, bytes_at, no_frames, IsInUse}
 
@@ -29,9 +29,16 @@ is_held p page = is_some (frame_of p page)
 unfoldable pub flat : Paged → Memory
 flat p a = byte_in (page_bytes p.pool (frame_of p (a / 4096))) (a % 4096)
 
--- each page of the n bytes from a place on has a frame
-abbrev pub IsHeldFrom : Paged → ℕ → ℕ → Type 0
-IsHeldFrom p place n = (i : ℕ) → i < n → IsTrue (is_held p ((place + i) / 4096))
+-- each page from one up to another has a frame
+abbrev pub AreHeld : Paged → ℕ → ℕ → Type 0
+AreHeld p first end = (page : ℕ) → first ≤ page → page < end → IsTrue (is_held p page)
+
+-- the first page after n bytes from a place on, and how many pages these bytes touch
+abbrev pub end_page : ℕ → ℕ → ℕ
+end_page place n = (place + n + 4095) / 4096
+
+abbrev pub pages_touched : ℕ → ℕ → ℕ
+pages_touched place n = end_page place n - place / 4096
 
 -- no page has a frame
 pub record IsEmpty (p : Paged) (pages most : ℕ) : Type 0 where
@@ -39,12 +46,10 @@ pub record IsEmpty (p : Paged) (pages most : ℕ) : Type 0 where
   pub pool : p.pool ≡ no_frames most
   pub none : (page : ℕ) → frame_of p page ≡ None
 
--- the memory is the same, and no page has lost its frame
-pub record Keeps (old new : Paged) : Type 0 where
-  pub bytes : flat new ≡ flat old
+-- there are as many pages, and none has lost its frame
+pub record KeepsPages (old new : Paged) : Type 0 where
   pub length : length new.table ≡ length old.table
   pub held : (page : ℕ) → IsTrue (is_held old page) → IsTrue (is_held new page)
-  pub spare : old.pool.spare ≤ new.pool.spare + 1
 
 -- a frame has the bytes of a page
 abbrev pub IsPage : Option (List ℕ) → Type 0

@@ -5,6 +5,7 @@
 mod access;
 mod number;
 mod page_map;
+mod rights;
 
 pub use access::{Access, StoreFault, Width};
 pub use rv_model::Bytes;
