@@ -1,3 +1,5 @@
 pub mod Numbers
 pub mod Pieces
 pub mod PageLemmas
+pub mod Grains
+pub mod PlaceLemmas
