@@ -3,3 +3,5 @@ pub mod Pieces
 pub mod PageLemmas
 pub mod Grains
 pub mod PlaceLemmas
+pub mod PartLemmas
+pub mod SpaceLemmas

@@ -1,11 +1,13 @@
 -- What a hart's memory holds, and the memory of all parts that it stands for (this project's own).
 use Rattle.std.specs.Prelude.{◌≡◌, ℕ, ◌+◌, ◌-◌, ◌*◌, ◌/◌, ◌%◌, ◌<◌, ◌≤◌, Bool, true, false, ◌==◌, not, ◌&&◌, nat_lt, List, [], ◌∷◌, length, replicate, IsTrue, Result, Ok, Err, Option, Some, None}
 use Rattle.spec_base.specs.Layout.{range_end, is_lawful}
+use Rattle.spec_base.specs.declared.layout.Version.{Version}
+use Rattle.spec_base.specs.declared.layout.Version.TheVariants.{One, Two}
 use Rattle.spec_base.specs.declared.layout.Layout.{Layout}
 use Rattle.spec_base.specs.declared.machine.View.{View}
 use Rattle.spec_base.specs.declared.machine.View.TheVariants.{Plain, Program, Stub, Shadow}
 use Rattle.rv_model.specs.Memory.{Memory, loaded, all_from}
-use Rattle.rv_model.specs.Rights.{in_private, in_shared, is_data, rights_of}
+use Rattle.rv_model.specs.Rights.{in_private, in_shared, in_text, is_data, rights_of}
 use Rattle.rv_model.specs.Space.{Space, sees}
 use Rattle.hart_mem.specs.Paged.{Paged, flat, is_held, AreHeld}
 use Rattle.hart_mem.specs.Places.{shared_place, stub_place, shadow_place, page_count}
@@ -98,3 +100,32 @@ store_answer view h a width = store_if (a % width == 0) (all_from (rights_of vie
 -- the byte at an address that is data
 abbrev pub data_byte : Space → ℕ → Option ℕ
 data_byte s a = elim (is_data s.layout a) [ true ↦ Some (s.program a) | false ↦ None ]
+
+-- none of n bytes is of the text
+abbrev pub IsOffText : Layout → ℕ → ℕ → Type 0
+IsOffText l a n = (i : ℕ) → i < n → in_text l (a + i) ≡ false
+
+-- ---- at the start
+
+abbrev pub zeros : Memory
+zeros a = 0
+
+-- a memory of a text, whose emitted code and whose bytes are zero
+abbrev pub empty_space : Layout → List ℕ → Space
+empty_space l text =
+    record {
+      layout = l;
+      text = text;
+      shadow = code_or_zeros [] (shadow_words l);
+      helpers = code_or_zeros [] 282;
+      stub = code_or_zeros [] 71;
+      program = zeros;
+      shared = zeros;
+      stub_page = zeros;
+      shadow_page = zeros;
+    }
+
+-- the frames that a memory's pool may have at most: more than all its pages and 17 together
+abbrev pub most_frames : Version → ℕ
+most_frames One = 71_680
+most_frames Two = 274_432
