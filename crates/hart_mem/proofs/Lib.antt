@@ -5,3 +5,4 @@ pub mod Grains
 pub mod PlaceLemmas
 pub mod PartLemmas
 pub mod SpaceLemmas
+pub mod ViewLemmas

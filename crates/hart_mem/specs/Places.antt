@@ -33,21 +33,20 @@ shared_place l a =
     ]
 
 -- the place of an address in a view
-abbrev pub stub_sees_at : Layout → ℕ → ℕ
-stub_sees_at l a = elim (in_private a) [ true ↦ stub_place l a | false ↦ shared_place l a ]
+abbrev pub stub_spot : Bool → Layout → ℕ → ℕ
+stub_spot true l a = stub_place l a
+stub_spot false l a = shared_place l a
 
-abbrev pub shadow_sees_at : Layout → ℕ → ℕ
-shadow_sees_at l a =
-    elim (in_private a) [
-      | true ↦ shadow_place l a
-      | false ↦ elim (in_range l a) [ true ↦ a | false ↦ shared_place l a ]
-    ]
+abbrev pub shadow_spot : Bool → Bool → Layout → ℕ → ℕ
+shadow_spot true in_program l a = shadow_place l a
+shadow_spot false true l a = a
+shadow_spot false false l a = shared_place l a
 
 abbrev pub place_of : View → Layout → ℕ → ℕ
 place_of Plain l a = a
 place_of Program l a = a
-place_of Stub l a = stub_sees_at l a
-place_of Shadow l a = shadow_sees_at l a
+place_of Stub l a = stub_spot (in_private a) l a
+place_of Shadow l a = shadow_spot (in_private a) (in_range l a) l a
 
 -- how many pages all of them take
 abbrev pub page_count : Layout → ℕ

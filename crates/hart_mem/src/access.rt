@@ -1,7 +1,7 @@
 //! Loads and stores: how wide they are, and why one is refused.
 
-ghost use Rattle.std.specs.Prelude.{◌≡◌, ◌≤◌, ◌<◌};
-ghost use Rattle.hart_mem.specs.Access.{width_bytes};
+ghost use Rattle.std.specs.Prelude.{◌≡◌};
+ghost use Rattle.hart_mem.specs.Access.{IsWidth, width_bytes};
 
 /// How many bytes a load or a store takes.
 #[derive(Clone, Copy, Debug, PartialEq, Eq)]
@@ -36,7 +36,7 @@ impl Width {
     /// The width in bytes.
     pub fn bytes(self) -> usize
         ensures value { result ≡ width_bytes self }
-        ensures bound { (1 ≤ result) × (result ≤ 8) }
+        ensures width { IsWidth result }
     {
         match self {
             Width::One => 1,

@@ -3,9 +3,11 @@
 #![tactic(auto)]
 
 mod access;
+mod mem;
 mod number;
 mod page_map;
 mod rights;
 
 pub use access::{Access, StoreFault, Width};
+pub use mem::Mem;
 pub use rv_model::Bytes;

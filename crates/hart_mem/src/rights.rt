@@ -5,7 +5,7 @@ ghost use Rattle.spec_base.specs.Layout.{is_lawful};
 ghost use Rattle.rv_model.specs.Memory.{is_within, all_from};
 ghost use Rattle.rv_model.specs.Rights.{in_private, in_link, in_shared, in_range, in_text, is_data, list_bytes, rights_of};
 ghost use Rattle.hart_mem.specs.Access.{IsWidth};
-ghost use Rattle.hart_mem.specs.Places.{copies_place, list_place, page_count, place_of, shared_place, shadow_place, stub_place, stub_sees_at, shadow_sees_at};
+ghost use Rattle.hart_mem.specs.Places.{copies_place, list_place, page_count, place_of, shared_place, shadow_place, stub_place, stub_spot, shadow_spot};
 
 use spec_base::{
     COPIES_START, COPY_BYTES, LINK_BYTES, LINK_START, LIST_START, Layout, PRIVATE_BYTES,
@@ -141,15 +141,15 @@ pub(crate) fn place_of(view: View, layout: &Layout, address: u64) -> u64
 {
     match view {
         View::Plain | View::Program => address,
-        View::Stub => stub_sees_at(layout, address),
-        View::Shadow => shadow_sees_at(layout, address),
+        View::Stub => stub_spot(layout, address),
+        View::Shadow => shadow_spot(layout, address),
     }
 }
 
-fn stub_sees_at(layout: &Layout, address: u64) -> u64
+fn stub_spot(layout: &Layout, address: u64) -> u64
     requires lawful { IsTrue (is_lawful layout.now) }
     requires allowed { IsTrue (in_private address || in_link address) }
-    ensures { result ≡ stub_sees_at layout.now address }
+    ensures { result ≡ stub_spot (in_private address) layout.now address }
 {
     if is_private(address) {
         layout.version.range_end() + (address - PRIVATE_START)
@@ -158,10 +158,10 @@ fn stub_sees_at(layout: &Layout, address: u64) -> u64
     }
 }
 
-fn shadow_sees_at(layout: &Layout, address: u64) -> u64
+fn shadow_spot(layout: &Layout, address: u64) -> u64
     requires lawful { IsTrue (is_lawful layout.now) }
     requires allowed { IsTrue (in_private address || (in_shared layout.now address || in_range layout.now address)) }
-    ensures { result ≡ shadow_sees_at layout.now address }
+    ensures { result ≡ shadow_spot (in_private address) (in_range layout.now address) layout.now address }
 {
     if is_in_range(layout, address) {
         address
