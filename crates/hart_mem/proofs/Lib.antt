@@ -6,3 +6,5 @@ pub mod PlaceLemmas
 pub mod PartLemmas
 pub mod SpaceLemmas
 pub mod ViewLemmas
+pub mod CodeLemmas
+pub mod MemLemmas

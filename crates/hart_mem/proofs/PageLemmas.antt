@@ -23,7 +23,7 @@ unfolding flat
 flat_held p a k e = rw e refl
 
 -- a page with no frame reads as zero
-flat_none : (p : Paged) (a : ℕ) → frame_of p (a / 4096) ≡ None → flat p a ≡ 0
+pub flat_none : (p : Paged) (a : ℕ) → frame_of p (a / 4096) ≡ None → flat p a ≡ 0
 unfolding flat byte_in
 flat_none p a e = rw e refl
 

@@ -1,5 +1,5 @@
 -- What each view sees and stores stands at its places in the pages.
-use Rattle.std.proofs.Common.{◌≡◌, ℕ, ◌+◌, ◌-◌, ◌*◌, ◌/◌, ◌%◌, ◌<◌, ◌≤◌, Bool, true, false, not, ◌&&◌, ◌||◌, IsTrue, nat_le, nat_lt, List, length, refl, ap, sym, subst, ◌∙◌, arith, inl, inr}
+use Rattle.std.proofs.Common.{◌≡◌, ℕ, ◌+◌, ◌-◌, ◌*◌, ◌/◌, ◌%◌, ◌<◌, ◌≤◌, Bool, true, false, not, ◌&&◌, ◌||◌, IsTrue, nat_le, nat_lt, List, length, get_or, refl, ap, sym, subst, ◌∙◌, arith, inl, inr}
 use Rattle.std.proofs.lemmas.Bool.{cases_lt, false≢true}
 use Rattle.std.proofs.lemmas.Bool.Decides.{nat_tests}
 use Rattle.std.proofs.Math.Path.{fun_ext}
@@ -10,13 +10,13 @@ use Rattle.spec_base.specs.declared.machine.View.{View}
 use Rattle.spec_base.specs.declared.machine.View.TheVariants.{Plain, Program, Stub, Shadow}
 use Rattle.rv_model.specs.Memory.{Memory, loaded, patched, stored, written, all_from}
 use Rattle.rv_model.specs.Rights.{in_range, in_text, is_data, in_private, in_link, in_shared, rights_of}
-use Rattle.rv_model.specs.Space.{Space, program_byte, sees, stored_in, stub_stored, shadow_stored}
+use Rattle.rv_model.specs.Space.{Space, program_byte, text_byte, sees, stored_in, stub_stored, shadow_stored}
 use Rattle.program_model.specs.Loading.{data_of}
 use Rattle.hart_mem.specs.Places.{stub_place, shadow_place, shared_place, list_place, copies_place, stub_spot, shadow_spot, place_of, page_count}
 use Rattle.hart_mem.specs.Held.{Held, IsOffText, part}
 use Rattle.hart_mem.proofs.Numbers.{loaded_same}
 use Rattle.hart_mem.proofs.Grains.{range_end-pages, table-pages, range_end-above, range_end-below, IsLawful}
-use Rattle.hart_mem.proofs.PartLemmas.{all_from-at, all_from-inside, patch_outside, patch_over, part_in, part_out}
+use Rattle.hart_mem.proofs.PartLemmas.{all_from-at, all_from-inside, patch_outside, patch_over, part_in, part_miss, part_out}
 use Rattle.hart_mem.proofs.PlaceLemmas.{shared_above, shared_below, shared_mod, shared_step}
 use Rattle.hart_mem.proofs.SpaceLemmas.{spaced, data_low, private_high, private_end, program_patched, stub_page_patched, shadow_page_patched, shared_patched}
 
@@ -61,7 +61,7 @@ store_loads Stub l b h = h
 store_loads Shadow l b h = or_deeper (in_private b) (in_shared l b) (in_range l b) h
 
 -- an address of the program range is in it, and isn't shared
-range_low : (l : Layout) (b : ℕ) → IsTrue (in_range l b) → b < range_end l.version
+pub range_low : (l : Layout) (b : ℕ) → IsTrue (in_range l b) → b < range_end l.version
 range_low l b h = grind (arith, nat_tests)
 
 range_unshared : (l : Layout) (b : ℕ) → IsTrue (in_range l b) → IsTrue (in_shared l b) → ⊥
@@ -175,6 +175,44 @@ module _ (h : Held) (lawful : IsLawful h.layout) (m : Memory) where
         let first : IsTrue ((rights_of v h.layout).load a) = all_from-inside (rights_of v h.layout).load n a ok a (omega arith) (omega arith) in
         sym (sees_place v (a + i) (all_from-at (rights_of v h.layout).load n a i ok l) (λ e. off e i l) ∙ ap m (place_step h.layout lawful a v i (omega arith) first)))
 
+-- what the shadow sees of the program range
+not_private : (l : Layout) (b : ℕ) → IsTrue (in_range l b) → in_private b ≡ false
+not_private l b h =
+    let low : b < range_end l.version = range_low l b h in
+    grind (arith, nat_tests, range_end-below l.version)
+
+-- the choice of a byte that the shadow sees
+abbrev chosen : Bool → Bool → Bool → ℕ → ℕ → ℕ → ℕ → ℕ
+chosen private in_program of_text page word byte other = elim private [ true ↦ page | false ↦ elim in_program [ true ↦ elim of_text [ true ↦ word | false ↦ byte ] | false ↦ other ] ]
+
+chosen_word : (t r x : Bool) (page word byte other : ℕ) → t ≡ false → r ≡ true → x ≡ true → chosen t r x page word byte other ≡ word
+chosen_word t r x page word byte other e f g = rw (e, f, g) refl
+
+chosen_data : (t r x : Bool) (page word byte other : ℕ) → t ≡ false → r ≡ true → x ≡ false → chosen t r x page word byte other ≡ byte
+chosen_data t r x page word byte other e f g = rw (e, f, g) refl
+
+module _ (h : Held) (m : Memory) (b : ℕ) (inside : IsTrue (in_range h.layout b)) where
+  pub sees_text : in_text h.layout b ≡ true → sees Shadow (spaced h m) b ≡ text_byte h.layout h.text b
+  sees_text e =
+      chosen_word (in_private b) (in_range h.layout b) (in_text h.layout b) (part in_private (shadow_place h.layout) m b) (text_byte h.layout h.text b) (part (is_data h.layout) (λ a. a) m b) (part (in_shared h.layout) (shared_place h.layout) m b) (not_private h.layout b inside) inside e
+
+  pub sees_data : in_text h.layout b ≡ false → sees Shadow (spaced h m) b ≡ m b
+  sees_data e =
+      let is : IsTrue (is_data h.layout b) = and_both (in_range h.layout b) (not (in_text h.layout b)) inside (not_true (in_text h.layout b) e) in
+      chosen_data (in_private b) (in_range h.layout b) (in_text h.layout b) (part in_private (shadow_place h.layout) m b) (text_byte h.layout h.text b) (part (is_data h.layout) (λ a. a) m b) (part (in_shared h.layout) (shared_place h.layout) m b) (not_private h.layout b inside) inside e ∙ part_in (is_data h.layout) (λ a. a) m b is
+
+-- a byte that the shadow loads below the link is of the program range
+pub shadow_low : (l : Layout) (b : ℕ) → IsTrue ((rights_of Shadow l).load b) → b < 0x4200_0000 → IsTrue (in_range l b)
+shadow_low l b ok low = grind (arith, nat_tests)
+
+-- ---- accesses past the text or before it
+
+pub off_after : (l : Layout) (a n : ℕ) → l.text_end ≤ a → IsOffText l a n
+off_after l a n h i k = grind (arith, nat_tests)
+
+pub off_before : (l : Layout) (a n : ℕ) → a + (n - 1) < l.text_start → IsOffText l a n
+off_before l a n h i k = grind (arith, nat_tests)
+
 -- ---- stores
 
 module _ (h : Held) (lawful : IsLawful h.layout) (m : Memory) (a n x : ℕ) (eight : a % 8 + n ≤ 8) (some : 1 ≤ n) where
@@ -214,3 +252,17 @@ module _ (l : Layout) (m : Memory) (a : ℕ) (bytes : List ℕ) (above : 0x1000 
 
   pub part_loaded : part (is_data l) (λ a. a) (written m a bytes) ≡ data_of l (written (part (is_data l) (λ a. a) m) a bytes)
   part_loaded = fun_ext (λ b. part_byte b (in_range l b) (in_text l b) refl refl)
+
+-- a part of the program range is loaded
+module _ (h : Held) (lawful : IsLawful h.layout) (m : Memory) (a : ℕ) (bytes : List ℕ) (above : 0x1000 ≤ a) (below : a + length bytes ≤ range_end h.layout.version) where
+  -- only the program part sees it
+  loaded_ends : (p : ℕ) → range_end h.layout.version ≤ p → a ≤ p → p < a + length bytes → ⊥
+  loaded_ends p past low high = absurd (omega arith)
+
+  pub loaded_spaced : spaced h (written m a bytes) ≡ record (spaced h m) { program = data_of h.layout (written (part (is_data h.layout) (λ a. a) m) a bytes) }
+  loaded_spaced =
+      let one = part_loaded h.layout m a bytes above below in
+      let two = part_miss (in_shared h.layout) (shared_place h.layout) m a (length bytes) (λ i. get_or bytes i 0) (λ b e low high. loaded_ends (shared_place h.layout b) (omega (arith, shared_above h.layout lawful b e)) low high) in
+      let three = part_miss in_private (stub_place h.layout) m a (length bytes) (λ i. get_or bytes i 0) (λ b e low high. loaded_ends (stub_place h.layout b) (omega arith) low high) in
+      let four = part_miss in_private (shadow_place h.layout) m a (length bytes) (λ i. get_or bytes i 0) (λ b e low high. loaded_ends (shadow_place h.layout b) (omega arith) low high) in
+      rw (one, two, three, four) refl

@@ -3,6 +3,7 @@
 #![tactic(auto)]
 
 mod access;
+mod code;
 mod mem;
 mod number;
 mod page_map;

@@ -1,17 +1,17 @@
 //! The memory of a hart.
 
-ghost use Rattle.std.specs.Prelude.{◌≡◌, ◌+◌, ◌-◌, ◌*◌, ◌/◌, ◌%◌, ◌^◌, ◌<◌, ◌≤◌, ◌&&◌, not, ◌==◌, IsTrue, IsOk, true, false, length, vec_len, IfOk, OnOk, OnErr};
+ghost use Rattle.std.specs.Prelude.{ℕ, ◌≡◌, ◌+◌, ◌-◌, ◌*◌, ◌/◌, ◌%◌, ◌^◌, ◌<◌, ◌≤◌, ◌&&◌, not, ◌==◌, IsTrue, IsOk, true, false, length, vec_len, IfOk, OnOk, OnErr};
 ghost use Rattle.spec_base.specs.Word.{byte_of};
 ghost use Rattle.spec_base.specs.Layout.{range_end, is_lawful};
 ghost use Rattle.rv_model.specs.Memory.{all_from, loaded, written};
 ghost use Rattle.rv_model.specs.Rights.{is_data, in_range, rights_of};
-ghost use Rattle.rv_model.specs.Effect.{fetched};
 ghost use Rattle.rv_model.specs.Space.{program_byte, sees, stored_in, word_at};
 ghost use Rattle.program_model.specs.Loading.{data_of};
 ghost use Rattle.hart_mem.specs.Access.{IsWidth, width_bytes};
 ghost use Rattle.hart_mem.specs.Paged.{pages_touched};
-ghost use Rattle.hart_mem.specs.Held.{IsOffText, code_or_zeros, data_byte, empty_space, lacks_frame, load_answer, shadow_words, most_frames, space_of, spare_of, store_answer, text_words};
+ghost use Rattle.hart_mem.specs.Held.{IsOffText, data_byte, empty_space, lacks_frame, load_answer, shadow_words, most_frames, space_of, spare_of, store_answer, text_words};
 
+use crate::code::{code_at, word_at};
 use crate::access::{Access, StoreFault, Width};
 use crate::page_map::PageMap;
 use crate::rights::{is_data, is_in_text, may_load_all, may_store_all, page_count, place_of};
@@ -71,20 +71,6 @@ fn most_frames(version: Version) -> usize
     }
 }
 
-// The word at pc of code that starts at an address; zero words stand for code that isn't given yet.
-fn code_at(code: &[u32], count: usize, start: u64, pc: u64) -> Option<u32>
-    ensures { result ≡ fetched (code_or_zeros code.now count) start pc }
-{
-    if pc < start || pc % 4 != 0 {
-        return None;
-    }
-    let index = ((pc - start) / 4) as usize;
-    if code.is_empty() {
-        return if index < count { Some(0) } else { None };
-    }
-    code.get(index).copied()
-}
-
 impl Mem {
     /// A memory with a text, whose other bytes are zero. The pages of the program range aren't
     /// taken yet; those of all else are. Until `set_code` each word of the emitted code is 0.
@@ -109,6 +95,7 @@ impl Mem {
     }
 
     /// The layout with which the memory was made.
+    #[tactic(auto, unfolding(crate::specs::Held::space_of, crate::specs::Held::spare_of))]
     pub fn layout(&self) -> Layout
         ensures { result ≡ (space_of self.now).layout }
     {
@@ -116,6 +103,7 @@ impl Mem {
     }
 
     /// How many frames are spare.
+    #[tactic(auto, unfolding(crate::specs::Held::space_of, crate::specs::Held::spare_of))]
     pub fn spare(&self) -> usize
         ensures { result ≡ spare_of self.now }
     {
@@ -123,6 +111,7 @@ impl Mem {
     }
 
     /// Sees to it that at least `n` frames are spare.
+    #[tactic(auto, unfolding(crate::specs::Held::space_of, crate::specs::Held::spare_of))]
     pub fn reserve(&mut self, n: usize) -> Result<(), NoMemory>
         requires { n ≤ 17 }
         ensures ok { OnOk result (n ≤ spare_of self.new) }
@@ -134,6 +123,7 @@ impl Mem {
 
     /// Gives the emitted code: 16 words of shadow text for each word of the text and 16 for the
     /// guard block, the helpers, and the stub.
+    #[tactic(auto, unfolding(crate::specs::Held::space_of, crate::specs::Held::spare_of))]
     pub fn set_code(&mut self, shadow: Vec<u32>, helpers: Vec<u32>, stub: Vec<u32>)
         requires shadow { vec_len shadow ≡ shadow_words (space_of self.old).layout }
         requires helpers { vec_len helpers ≡ 282 }
@@ -147,11 +137,12 @@ impl Mem {
     }
 
     /// The word at pc of the view's code. None exactly where pc is outside it or no multiple of 4.
+    #[tactic(auto, unfolding(crate::specs::Held::space_of, crate::specs::Held::spare_of))]
     pub fn fetch(&self, view: View, pc: u64) -> Option<u32>
         ensures { result ≡ word_at view (space_of self.now) pc }
     {
         match view {
-            View::Plain | View::Program => self.text_at(pc),
+            View::Plain | View::Program => word_at(&self.text, self.layout.text_start, pc),
             View::Stub => code_at(&self.stub, STUB_WORDS, STUB_START, pc),
             View::Shadow => {
                 if HELPERS_START <= pc {
@@ -162,17 +153,6 @@ impl Mem {
                 }
             }
         }
-    }
-
-    // The word of the text at pc.
-    fn text_at(&self, pc: u64) -> Option<u32>
-        ensures { result ≡ fetched (space_of self.now).text (space_of self.now).layout.text_start pc }
-    {
-        let start = self.layout.text_start;
-        if pc < start || pc % 4 != 0 {
-            return None;
-        }
-        self.text.get(((pc - start) / 4) as usize).copied()
     }
 
     /// The number at an address. `Unaligned` exactly where the address is no multiple of the width,
@@ -195,7 +175,7 @@ impl Mem {
     fn number(&self, view: View, address: u64, size: u64) -> u64
         requires size { IsWidth size }
         requires aligned { address % size ≡ 0 }
-        requires allowed { IsTrue (all_from (rights_of view (space_of self.now).layout).load address size) }
+        requires allowed { IsTrue (all_from (rights_of view self.now.layout).load address size) }
         ensures value { result ≡ loaded (sees view (space_of self.now)) address size }
         ensures bound { result < 2 ^ (8 * size) }
     {
@@ -209,16 +189,19 @@ impl Mem {
     // Whether one of these bytes is of the text.
     fn touches_text(&self, address: u64, size: u64) -> bool
         requires size { (1 ≤ size) × (address + size ≤ 2 ^ 64) }
-        ensures not { result ≡ false → IsOffText (space_of self.now).layout address size }
-        ensures below { result ≡ true → address < (space_of self.now).layout.text_end }
+        ensures not { result ≡ false → IsOffText self.now.layout address size }
+        ensures below { result ≡ true → address < self.now.layout.text_end }
     {
-        address < self.layout.text_end && self.layout.text_start <= address + (size - 1)
+        if self.layout.text_end <= address {
+            return false;
+        }
+        self.layout.text_start <= address + (size - 1)
     }
 
     // The number of bytes of the program range, of which some are of the text.
     fn text_number(&self, address: u64, size: u64) -> u64
         requires size { size ≤ 8 }
-        requires inside { (i : ℕ) → i < size → IsTrue (in_range (space_of self.now).layout (address + i)) }
+        requires inside { (i : ℕ) → i < size → IsTrue (in_range self.now.layout (address + i)) }
         requires fits { address + size ≤ 2 ^ 64 }
         ensures value { result ≡ loaded (sees View.Shadow (space_of self.now)) address size }
         ensures bound { result < 2 ^ (8 * size) }
@@ -232,7 +215,7 @@ impl Mem {
 
     // A byte of the program range, its text included.
     fn range_byte(&self, address: u64) -> u8
-        requires { IsTrue (in_range (space_of self.now).layout address) }
+        requires { IsTrue (in_range self.now.layout address) }
         ensures { result ≡ sees View.Shadow (space_of self.now) address }
     {
         if is_in_text(&self.layout, address) {
@@ -256,7 +239,7 @@ impl Mem {
         ensures answer { result ≡ store_answer view self.old address (width_bytes width) }
         ensures ok { OnOk result (space_of self.new ≡ stored_in view (space_of self.old) address (width_bytes width) value) }
         ensures err { OnErr result (self.new ≡ self.old) }
-        ensures spare { spare_of self.old ≤ spare_of self.new + 1 }
+        ensures spare { (spare_of self.new ≤ spare_of self.old) × (spare_of self.old ≤ spare_of self.new + 1) }
     {
         let size = width.bytes() as u64;
         if address % size != 0 {
@@ -276,11 +259,11 @@ impl Mem {
     fn put(&mut self, view: View, address: u64, size: u64, value: u64) -> bool
         requires size { IsWidth size }
         requires aligned { address % size ≡ 0 }
-        requires allowed { IsTrue (all_from (rights_of view (space_of self.old).layout).store address size) }
+        requires allowed { IsTrue (all_from (rights_of view self.old.layout).store address size) }
         ensures answer { result ≡ not (lacks_frame view self.old address) }
         ensures ok { result ≡ true → space_of self.new ≡ stored_in view (space_of self.old) address size value }
         ensures err { result ≡ false → self.new ≡ self.old }
-        ensures spare { spare_of self.old ≤ spare_of self.new + 1 }
+        ensures spare { (spare_of self.new ≤ spare_of self.old) × (spare_of self.old ≤ spare_of self.new + 1) }
     {
         let place = place_of(view, &self.layout, address) as usize;
         if !self.pages.hold(place / 4096) {

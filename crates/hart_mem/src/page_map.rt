@@ -1,6 +1,6 @@
 //! A flat memory in pages: each page has a frame of a pool, or none and reads as zero.
 
-ghost use Rattle.std.specs.Prelude.{◌≡◌, ◌≢◌, ◌+◌, ◌-◌, ◌*◌, ◌/◌, ◌%◌, ◌^◌, ◌<◌, ◌≤◌, ◌||◌, ◌⊎◌, IsTrue, nat_lt, true, false, length, Err, IfOk, OnOk, OnErr};
+ghost use Rattle.std.specs.Prelude.{◌≡◌, ◌≢◌, ◌+◌, ◌-◌, ◌*◌, ◌/◌, ◌%◌, ◌^◌, ◌<◌, ◌≤◌, ◌||◌, ◌⊎◌, IsTrue, nat_lt, if◌then◌else◌, true, false, length, Err, IfOk, OnOk, OnErr};
 ghost use Rattle.page_pool.specs.Frames.{reserved};
 ghost use Rattle.rv_model.specs.Memory.{loaded, written};
 ghost use Rattle.hart_mem.specs.Paged.{flat, is_held, IsEmpty, AreHeld, KeepsPages, end_page, pages_touched};
@@ -78,6 +78,7 @@ impl PageMap {
         requires { n ≤ 17 }
         ensures ok { OnOk result (self.new ≡ record self.old { pool = reserved self.old.pool n }) }
         ensures bytes { flat self.new ≡ flat self.old }
+        ensures more { self.old.pool.spare ≤ self.new.pool.spare }
         ensures refused { OnErr result (self.new ≡ self.old) }
     {
         match self.reserve_frames(n) {
@@ -94,7 +95,7 @@ impl PageMap {
         ensures refused { result ≡ false → self.new ≡ self.old }
         ensures bytes { flat self.new ≡ flat self.old }
         ensures pages { KeepsPages self.old self.new }
-        ensures spare { self.old.pool.spare ≤ self.new.pool.spare + 1 }
+        ensures spare { self.new.pool.spare ≡ (if is_held self.old page then self.old.pool.spare else self.old.pool.spare - 1) }
     {
         if self.table[page].is_some() {
             return true;
@@ -140,7 +141,7 @@ impl PageMap {
         ensures short { OnErr result (self.old.pool.spare ≡ 0) }
         ensures bytes { flat self.new ≡ flat self.old }
         ensures pages { KeepsPages self.old self.new }
-        ensures spare { self.old.pool.spare ≤ self.new.pool.spare + 1 }
+        ensures spare { self.new.pool.spare ≡ (if is_held self.old page then self.old.pool.spare else self.old.pool.spare - 1) }
     {
         if self.hold(page) {
             return Ok(());
@@ -160,6 +161,7 @@ impl PageMap {
         ensures bytes { flat self.new ≡ flat self.old }
         ensures pages { KeepsPages self.old self.new }
         ensures spare { self.old.pool.spare ≤ self.new.pool.spare + (end - first) }
+        ensures no_more { self.new.pool.spare ≤ self.old.pool.spare }
     {
         for page in first..end {
             self.obtain(page)?;
@@ -194,6 +196,7 @@ impl PageMap {
         ensures short { OnErr result (self.old.pool.spare < pages_touched place (length bytes.now)) }
         ensures pages { KeepsPages self.old self.new }
         ensures spare { self.old.pool.spare ≤ self.new.pool.spare + pages_touched place (length bytes.now) }
+        ensures no_more { self.new.pool.spare ≤ self.old.pool.spare }
     {
         let first = place / PAGE_BYTES;
         let end = (place + bytes.len() + (PAGE_BYTES - 1)) / PAGE_BYTES;

@@ -7,5 +7,6 @@ invariant-loop-page l = record {
   held : AreHeld l.self l.first l.page;
   bytes : flat l.self ≡ flat l.fn.self;
   pages : KeepsPages l.fn.self l.self;
+  no_more : l.self.pool.spare ≤ l.fn.self.pool.spare;
   spare : l.fn.self.pool.spare ≤ l.self.pool.spare + (l.page - l.first);
 }
