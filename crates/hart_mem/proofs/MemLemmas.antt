@@ -1,9 +1,10 @@
 -- A whole memory: where its bytes stand, and what a change of its pages makes of it.
-use Rattle.std.proofs.Common.{◌≡◌, ℕ, zero, suc, take, ◌+◌, ◌-◌, ◌*◌, ◌/◌, ◌%◌, ◌^◌, ◌<◌, ◌≤◌, Bool, true, false, not, ◌&&◌, ◌||◌, ◌==◌, IsTrue, nat_lt, List, [], ◌∷◌, length, get_or, refl, ap, sym, ◌∙◌, arith}
+use Rattle.std.proofs.Common.{◌≡◌, ℕ, zero, suc, take, ◌+◌, ◌-◌, ◌*◌, ◌/◌, ◌%◌, ◌^◌, ◌<◌, ◌≤◌, Bool, true, false, not, ◌&&◌, ◌||◌, ◌==◌, IsTrue, nat_lt, List, [], ◌∷◌, length, get_or, Option, Some, None, Result, Ok, Err, OnOk, OnErr, IsOk, cond, refl, ap, sym, ◌∙◌, arith}
 use Rattle.std.proofs.lemmas.Bool.Decides.{nat_tests}
 use Rattle.std.proofs.Math.Path.{fun_ext}
 use Rattle.std.specs.Int.{to_le_bytes, w64}
 use Rattle.std.proofs.lemmas.List.{get_or-take, length-take-le}
+use Rattle.spec_base.specs.declared.memory_fault.NoMemory.{NoMemory}
 use Rattle.spec_base.specs.Word.{byte_of}
 use Rattle.spec_base.specs.Layout.{range_end}
 use Rattle.spec_base.specs.declared.layout.Layout.{Layout}
@@ -14,9 +15,12 @@ use Rattle.rv_model.specs.Rights.{in_private, in_range, in_shared, in_text, is_d
 use Rattle.rv_model.specs.Space.{Space, sees, stored_in, text_byte}
 use Rattle.program_model.specs.Loading.{data_of}
 use Rattle.hart_mem.specs.Access.{IsWidth}
-use Rattle.hart_mem.specs.Paged.{Paged, IsEmpty, KeepsPages, flat, frame_of, is_held, page_bytes, byte_in}
+use Rattle.hart_mem.specs.Paged.{Paged, IsEmpty, KeepsPages, flat, frame_of, is_held, page_bytes, pages_touched, byte_in}
 use Rattle.hart_mem.specs.Places.{place_of, shared_place, stub_place, shadow_place}
-use Rattle.hart_mem.specs.Held.{Held, IsOffText, IsWhole, empty_space, lacks_frame, part, space_of, zeros}
+use Rattle.hart_mem.specs.Held.{Held, IsOffText, IsWhole, code_or_zeros, data_byte, empty_space, lacks_frame, load_if, shadow_words, part, space_of, zeros}
+use Rattle.hart_mem.specs.declared.access.Access.{Access}
+use Rattle.hart_mem.specs.declared.access.Access.TheVariants as access
+use Rattle.hart_mem.proofs.CodeLemmas.{code_given}
 use Rattle.hart_mem.proofs.Grains.{IsLawful, lawful_is, range_end-below}
 use Rattle.hart_mem.proofs.PageLemmas.{flat_none}
 use Rattle.hart_mem.proofs.PartLemmas.{all_from-inside, all_from-at, part_in, part_out}
@@ -43,6 +47,24 @@ module _ (h : Held) (pages : Paged) where
   unfolding space_of
   filled_space whole a bytes ok e =
       ap (λ (m : Memory). spaced h m) e ∙ program_patched h (lawful_is h.layout whole.lawful) (flat h.pages) a (length bytes) _ (all_from-inside (is_data h.layout) (length bytes) a ok)
+
+-- ---- emitted code
+
+pub coded_space : (h : Held) (s k b : List ℕ) → 1 ≤ length s → 1 ≤ length k → 1 ≤ length b → space_of (record h { shadow = s; helpers = k; stub = b }) ≡ record (space_of h) { shadow = s; helpers = k; stub = b }
+unfolding space_of
+coded_space h s k b e f g =
+    let one : code_or_zeros s (shadow_words h.layout) ≡ s = sym (code_given s (shadow_words h.layout) e) in
+    let two : code_or_zeros k 282 ≡ k = sym (code_given k 282 f) in
+    let three : code_or_zeros b 71 ≡ b = sym (code_given b 71 g) in
+    rw (one, two, three) refl
+
+-- ---- no bytes
+
+pub nothing_written : (s : Space) (a : ℕ) (bytes : List ℕ) → length bytes ≡ 0 → s ≡ record s { program = written s.program a bytes }
+unfolding patched
+nothing_written s a bytes e =
+    let none : written s.program a bytes ≡ s.program = fun_ext (λ b. grind (arith, nat_tests)) in
+    rw none refl
 
 -- ---- loads
 
@@ -78,6 +100,15 @@ module _ (h : Held) (whole : IsWhole h) where
   pub range_inside : (b : ℕ) → IsTrue (in_range h.layout b) → b / 4096 < length h.pages.table
   range_inside b inside = omega (arith, whole.count, range_low h.layout b inside)
 
+  -- data end with the range, whose bytes all stand in pages
+  pub data_ends : (a n : ℕ) → 1 ≤ n → IsTrue (all_from (is_data h.layout) a n) → a + n ≤ range_end h.layout.version
+  data_ends a n some ok =
+      let last : a + (n - 1) < range_end h.layout.version = data_low h.layout (a + (n - 1)) (all_from-at (is_data h.layout) n a (n - 1) ok (omega arith)) in
+      omega arith
+
+  pub range_pages : (p : ℕ) → p ≤ range_end h.layout.version → p ≤ 4096 * length h.pages.table
+  range_pages p low = omega (arith, whole.count)
+
   -- a byte of the text is of one of its words
   pub text_word : (b : ℕ) → in_text h.layout b ≡ true → (b - h.layout.text_start) / 4 < length h.text
   text_word b inside =
@@ -107,6 +138,20 @@ module _ (h : Held) (whole : IsWhole h) where
   frame_found Shadow a ok =
       let held : IsTrue (is_held h.pages (place_of Shadow h.layout a / 4096)) = whole.held (place_of Shadow h.layout a / 4096) (shadow_page_past h.layout lawful a ok) (place_inside h.layout lawful a Shadow (store_loads Shadow h.layout a ok)) in
       ap (λ p. p || nat_lt 0 h.pages.pool.spare) held
+
+  -- a store of n bytes that the view stores
+  module _ (v : View) (a n : ℕ) (width : IsWidth n) (all : IsTrue (all_from (rights_of v h.layout).store a n)) where
+    pub put_loads : IsTrue ((rights_of v h.layout).load a)
+    put_loads = store_loads v h.layout a (first_right (rights_of v h.layout).store a n width all)
+
+    pub put_found : (is_held h.pages (place_of v h.layout a / 4096) || nat_lt 0 h.pages.pool.spare) ≡ not (lacks_frame v h a)
+    put_found = frame_found v a (first_right (rights_of v h.layout).store a n width all)
+
+    pub put_inside : place_of v h.layout a / 4096 < length h.pages.table
+    put_inside = inside_pages v a put_loads
+
+    pub put_fits : a % n ≡ 0 → place_of v h.layout a % 4096 + n ≤ 4096
+    put_fits aligned = in_page v a put_loads n width aligned
 
   -- ---- loading
 
@@ -165,3 +210,51 @@ piece_stored m p n x bytes h e =
 pub loaded_one : (m : Memory) (a : ℕ) → loaded m a 1 ≡ m a
 unfolding loaded
 loaded_one m a = omega arith
+
+-- ---- answers
+
+pub load_out : (t inside : Bool) (n : ℕ) → t ≡ true → inside ≡ false → (let out : Result ℕ Access = Err access.Out in out) ≡ load_if t inside n
+load_out t inside n e f = rw (e, f) refl
+
+pub load_ok : (t inside : Bool) (n : ℕ) → t ≡ true → inside ≡ true → (let ok : Result ℕ Access = Ok n in ok) ≡ load_if t inside n
+load_ok t inside n e f = rw (e, f) refl
+
+-- ---- bytes for calls
+
+module _ (h : Held) (b : ℕ) where
+  pub byte_none : is_data h.layout b ≡ false → None ≡ data_byte (space_of h) b
+  unfolding space_of
+  byte_none e = none_if (is_data h.layout b) (part (is_data h.layout) (λ a. a) (flat h.pages) b) e
+    where
+      none_if : (t : Bool) (n : ℕ) → t ≡ false → (let none : Option ℕ = None in none) ≡ elim t [ true ↦ Some n | false ↦ None ]
+      none_if t n e = rw e refl
+
+  pub byte_some : is_data h.layout b ≡ true → Some (flat h.pages b) ≡ data_byte (space_of h) b
+  unfolding space_of
+  byte_some e = ap (λ (n : ℕ). Some n) (sym (part_in (is_data h.layout) (λ a. a) (flat h.pages) b e)) ∙ some_if (is_data h.layout b) (part (is_data h.layout) (λ a. a) (flat h.pages) b) e
+    where
+      some_if : (t : Bool) (n : ℕ) → t ≡ true → Some n ≡ elim t [ true ↦ Some n | false ↦ None ]
+      some_if t n e = rw e refl
+
+-- ---- spare frames
+
+pub spare_bounds : (held : Bool) (s n : ℕ) → n ≡ cond held s (s - 1) → (n ≤ s) × (s ≤ n + 1)
+spare_bounds true s n e = (omega arith, omega arith)
+spare_bounds false s n e = (omega arith, omega arith)
+
+pub spare_enough : (a n s : ℕ) → n ≤ 65536 → 17 ≤ s → s < pages_touched a n → ⊥
+spare_enough a n s few enough short = absurd (omega arith)
+
+-- ---- what holds of a result
+
+pub on_ok : {A B : Type 0} → (r : Result Unit NoMemory) → (A → B) → OnOk r A → OnOk r B
+on_ok (Ok u) f h = f h
+on_ok (Err e) f h = h
+
+pub on_err : {A B : Type 0} → (r : Result Unit NoMemory) → (A → B) → OnErr r A → OnErr r B
+on_err (Ok u) f h = h
+on_err (Err e) f h = f h
+
+pub ok_unless : {A : Type 0} → (r : Result Unit NoMemory) → OnErr r A → (A → ⊥) → IsOk r
+ok_unless (Ok u) h f = refl
+ok_unless (Err e) h f = absurd (f h)

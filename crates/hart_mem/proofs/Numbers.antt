@@ -49,3 +49,10 @@ room_for_byte n h =
     let le : 8 * n + 8 ≤ 64 = omega arith in
     let p : 2 ^ (8 * n + 8) ≤ 2 ^ 64 = pow-le-pow_right (lit< tt) le in
     omega arith
+
+-- a number of n bytes and one byte more
+pub byte_more : (n k v b : ℕ) → k ≡ n + 1 → v < 2 ^ (8 * n) → b < 256 → v * 256 + b < 2 ^ (8 * k)
+byte_more n k v b e low byte =
+    let q : 2 ^ (8 * n + 8) ≡ 2 ^ (8 * n) * 2 ^ 8 = pow-add 2 (8 * n) 8 in
+    let s : 8 * k ≡ 8 * n + 8 = omega arith in
+    rw s (omega arith)

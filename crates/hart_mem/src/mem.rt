@@ -179,23 +179,40 @@ impl Mem {
         ensures value { result ≡ loaded (sees view (space_of self.now)) address size }
         ensures bound { result < 2 ^ (8 * size) }
     {
-        if view == View::Shadow && self.touches_text(address, size) {
-            return self.text_number(address, size);
+        match view {
+            View::Shadow => self.shadow_number(address, size),
+            View::Plain | View::Program | View::Stub => self.page_number(view, address, size),
         }
-        let place = place_of(view, &self.layout, address);
-        self.pages.load(place as usize, size as usize)
     }
 
-    // Whether one of these bytes is of the text.
-    fn touches_text(&self, address: u64, size: u64) -> bool
-        requires size { (1 ≤ size) × (address + size ≤ 2 ^ 64) }
-        ensures not { result ≡ false → IsOffText self.now.layout address size }
-        ensures below { result ≡ true → address < self.now.layout.text_end }
+    // As `number`, for the shadow, which loads the text too.
+    fn shadow_number(&self, address: u64, size: u64) -> u64
+        requires size { IsWidth size }
+        requires aligned { address % size ≡ 0 }
+        requires allowed { IsTrue (all_from (rights_of View.Shadow self.now.layout).load address size) }
+        ensures value { result ≡ loaded (sees View.Shadow (space_of self.now)) address size }
+        ensures bound { result < 2 ^ (8 * size) }
     {
         if self.layout.text_end <= address {
-            return false;
+            return self.page_number(View::Shadow, address, size);
         }
-        self.layout.text_start <= address + (size - 1)
+        if address + (size - 1) < self.layout.text_start {
+            return self.page_number(View::Shadow, address, size);
+        }
+        self.text_number(address, size)
+    }
+
+    // As `number`, for bytes of which none is of the text.
+    fn page_number(&self, view: View, address: u64, size: u64) -> u64
+        requires size { IsWidth size }
+        requires aligned { address % size ≡ 0 }
+        requires allowed { IsTrue (all_from (rights_of view self.now.layout).load address size) }
+        requires off { view ≡ View.Shadow → IsOffText self.now.layout address size }
+        ensures value { result ≡ loaded (sees view (space_of self.now)) address size }
+        ensures bound { result < 2 ^ (8 * size) }
+    {
+        let place = place_of(view, &self.layout, address);
+        self.pages.load(place as usize, size as usize)
     }
 
     // The number of bytes of the program range, of which some are of the text.
