@@ -90,8 +90,8 @@ module _ (a b : ℕ) (word : a / 4 ≡ b / 4) where
     shared_grain : in_shared l a ≡ in_shared l b
     shared_grain =
         either _ _ _ _ link_grain (
-          either _ _ _ _ (within_grain 0x4300_0000 (range_end l.version / 64) refl (omega (arith, table-pages l.version))) (
-            either _ _ _ _ (within_grain 0x4400_0000 (list_bytes l) refl (omega arith)) (within_grain 0x4500_0000 (256 * l.regions) refl (omega arith))))
+        either _ _ _ _ (within_grain 0x4300_0000 (range_end l.version / 64) refl (omega (arith, table-pages l.version))) (
+        either _ _ _ _ (within_grain 0x4400_0000 (list_bytes l) refl (omega arith)) (within_grain 0x4500_0000 (256 * l.regions) refl (omega arith))))
 
     load_grain : (v : View) → (rights_of v l).load a ≡ (rights_of v l).load b
     load_grain Plain = data_grain

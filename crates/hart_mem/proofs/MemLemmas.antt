@@ -1,5 +1,5 @@
 -- A whole memory: where its bytes stand, and what a change of its pages makes of it.
-use Rattle.std.proofs.Common.{◌≡◌, ℕ, zero, suc, take, ◌+◌, ◌-◌, ◌*◌, ◌/◌, ◌%◌, ◌^◌, ◌<◌, ◌≤◌, Bool, true, false, not, ◌&&◌, ◌||◌, ◌==◌, IsTrue, nat_lt, List, [], ◌∷◌, length, get_or, Option, Some, None, Result, Ok, Err, OnOk, OnErr, IsOk, cond, refl, ap, sym, ◌∙◌, arith}
+use Rattle.std.proofs.Common.{◌≡◌, ℕ, zero, suc, take, ◌+◌, ◌-◌, ◌*◌, ◌/◌, ◌%◌, ◌^◌, ◌<◌, ◌≤◌, Bool, true, false, not, ◌&&◌, ◌||◌, ◌==◌, IsTrue, nat_lt, List, [], ◌∷◌, length, get_or, Option, Some, None, Result, Ok, Err, OnOk, OnErr, IsOk, eq-eqb, cond, refl, ap, sym, ◌∙◌, arith}
 use Rattle.std.proofs.lemmas.Bool.Decides.{nat_tests}
 use Rattle.std.proofs.Math.Path.{fun_ext}
 use Rattle.std.specs.Int.{to_le_bytes, w64}
@@ -17,7 +17,7 @@ use Rattle.program_model.specs.Loading.{data_of}
 use Rattle.hart_mem.specs.Access.{IsWidth}
 use Rattle.hart_mem.specs.Paged.{Paged, IsEmpty, KeepsPages, flat, frame_of, is_held, page_bytes, pages_touched, byte_in}
 use Rattle.hart_mem.specs.Places.{place_of, shared_place, stub_place, shadow_place}
-use Rattle.hart_mem.specs.Held.{Held, IsOffText, IsWhole, code_or_zeros, data_byte, empty_space, lacks_frame, load_if, shadow_words, part, space_of, zeros}
+use Rattle.hart_mem.specs.Held.{Held, IsOffText, IsWhole, code_or_zeros, data_byte, empty_space, lacks_frame, load_answer, load_if, shadow_words, part, space_of, zeros}
 use Rattle.hart_mem.specs.declared.access.Access.{Access}
 use Rattle.hart_mem.specs.declared.access.Access.TheVariants as access
 use Rattle.hart_mem.proofs.CodeLemmas.{code_given}
@@ -213,11 +213,20 @@ loaded_one m a = omega arith
 
 -- ---- answers
 
-pub load_out : (t inside : Bool) (n : ℕ) → t ≡ true → inside ≡ false → (let out : Result ℕ Access = Err access.Out in out) ≡ load_if t inside n
-load_out t inside n e f = rw (e, f) refl
+out_if : (t inside : Bool) (n : ℕ) → t ≡ true → inside ≡ false → (let out : Result ℕ Access = Err access.Out in out) ≡ load_if t inside n
+out_if t inside n e f = rw (e, f) refl
 
-pub load_ok : (t inside : Bool) (n : ℕ) → t ≡ true → inside ≡ true → (let ok : Result ℕ Access = Ok n in ok) ≡ load_if t inside n
-load_ok t inside n e f = rw (e, f) refl
+ok_if : (t inside : Bool) (n : ℕ) → t ≡ true → inside ≡ true → (let ok : Result ℕ Access = Ok n in ok) ≡ load_if t inside n
+ok_if t inside n e f = rw (e, f) refl
+
+module _ (h : Held) (v : View) (a n : ℕ) (aligned : a % n ≡ 0) where
+  pub load_out : all_from (rights_of v h.layout).load a n ≡ false → (let out : Result ℕ Access = Err access.Out in out) ≡ load_answer v (space_of h) a n
+  unfolding space_of
+  load_out e = out_if (a % n == 0) (all_from (rights_of v h.layout).load a n) (loaded (sees v (space_of h)) a n) (eq-eqb (a % n) 0 aligned) e
+
+  pub load_ok : (number : ℕ) → number ≡ loaded (sees v (space_of h)) a n → all_from (rights_of v h.layout).load a n ≡ true → (let ok : Result ℕ Access = Ok number in ok) ≡ load_answer v (space_of h) a n
+  unfolding space_of
+  load_ok number is e = ap (λ (x : ℕ). let ok : Result ℕ Access = Ok x in ok) is ∙ ok_if (a % n == 0) (all_from (rights_of v h.layout).load a n) (loaded (sees v (space_of h)) a n) (eq-eqb (a % n) 0 aligned) e
 
 -- ---- bytes for calls
 

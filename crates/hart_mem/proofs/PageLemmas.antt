@@ -31,16 +31,16 @@ flat_none p a e = rw e refl
 pub loaded_held : (p : Paged) (a n k : ℕ) → a % 4096 + n ≤ 4096 → frame_of p (a / 4096) ≡ Some k → loaded (byte_in (bytes_at p.pool k)) (a % 4096) n ≡ loaded (flat p) a n
 loaded_held p a n k fits e =
     loaded_same _ _ n (a % 4096) a (λ i l.
-      let page : (a + i) / 4096 ≡ a / 4096 = omega arith in
-      let place : (a + i) % 4096 ≡ a % 4096 + i = omega arith in
-      sym (flat_held p (a + i) k (rw page e) ∙ ap (byte_in (bytes_at p.pool k)) place))
+    let page : (a + i) / 4096 ≡ a / 4096 = omega arith in
+    let place : (a + i) % 4096 ≡ a % 4096 + i = omega arith in
+    sym (flat_held p (a + i) k (rw page e) ∙ ap (byte_in (bytes_at p.pool k)) place))
 
 -- a number in a page with none
 pub loaded_not_held : (p : Paged) (a n : ℕ) → a % 4096 + n ≤ 4096 → frame_of p (a / 4096) ≡ None → 0 ≡ loaded (flat p) a n
 loaded_not_held p a n fits e =
     loaded_zero _ n a (λ i l.
-      let page : (a + i) / 4096 ≡ a / 4096 = omega arith in
-      flat_none p (a + i) (rw page e))
+    let page : (a + i) / 4096 ≡ a / 4096 = omega arith in
+    flat_none p (a + i) (rw page e))
 
 -- a page with a frame is one of the table
 pub is_held-inside : (p : Paged) (page : ℕ) → IsTrue (is_held p page) → page < length p.table
@@ -185,13 +185,13 @@ module _ (p : Paged) (sound : IsSound p) (new : Frames) (page k : ℕ) (inside :
   own_after i j f e g =
       elim (cases_eq i page) [
         | inl here ↦ elim (cases_eq j page) [
-            | inl there ↦ here ∙ sym there
-            | inr other ↦ absurd (apart_from j f (sym (entry_else j other) ∙ g) (let h : entry i ≡ Some k = entry_here i here in cc))
-          ]
+          | inl there ↦ here ∙ sym there
+          | inr other ↦ absurd (apart_from j f (sym (entry_else j other) ∙ g) (let h : entry i ≡ Some k = entry_here i here in cc))
+        ]
         | inr apart ↦ elim (cases_eq j page) [
-            | inl there ↦ absurd (apart_from i f (sym (entry_else i apart) ∙ e) (let h : entry j ≡ Some k = entry_here j there in cc))
-            | inr other ↦ sound.own i j f (sym (entry_else i apart) ∙ e) (sym (entry_else j other) ∙ g)
-          ]
+          | inl there ↦ absurd (apart_from i f (sym (entry_else i apart) ∙ e) (let h : entry j ≡ Some k = entry_here j there in cc))
+          | inr other ↦ sound.own i j f (sym (entry_else i apart) ∙ e) (sym (entry_else j other) ∙ g)
+        ]
       ]
 
   pages_after : (i f : ℕ) → entry i ≡ Some f → IsPage (frame_at new f)

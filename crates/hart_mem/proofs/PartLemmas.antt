@@ -81,9 +81,9 @@ module _ (test : ℕ → Bool) (place : ℕ → ℕ) (m : Memory) where
         elim (cases_lt b a) [
           | inl before ↦ else_byte b e (λ low high. absurd (omega arith))
           | inr low ↦ elim (cases_lt b (a + n)) [
-              | inl high ↦ here_byte b e low high
-              | inr past ↦ else_byte b e (λ l high. absurd (omega arith))
-            ]
+            | inl high ↦ here_byte b e low high
+            | inr past ↦ else_byte b e (λ l high. absurd (omega arith))
+          ]
         ]
     hit_byte b false e =
         part_out test place (patched m (place a) n f) b e ∙ sym (part_out test place m b e) ∙ sym (patch_outside (part test place m) a n f b (λ low high. false≢true (sym e ∙ inside b low high)))

@@ -60,10 +60,10 @@ unfolding patched byte_in
 patched_more m place i j xs h k =
     let len : length (slice_range xs i j) ≡ j - i = length_range xs i j k in
     fun_ext (λ b.
-      let back : place + i ≤ b → i + (b - (place + i)) ≡ b - place = λ q. omega arith in
-      let same : place + i ≤ b → b < place + j → get_or (slice_range xs i j) (b - (place + i)) 0 ≡ get_or xs (b - place) 0 =
-      λ p q. range_byte xs i j (b - (place + i)) (omega arith) ∙ ap (λ n. get_or xs n 0) (back p) in
-      grind (arith, nat_tests, same))
+    let back : place + i ≤ b → i + (b - (place + i)) ≡ b - place = λ q. omega arith in
+    let same : place + i ≤ b → b < place + j → get_or (slice_range xs i j) (b - (place + i)) 0 ≡ get_or xs (b - place) 0 =
+    λ p q. range_byte xs i j (b - (place + i)) (omega arith) ∙ ap (λ n. get_or xs n 0) (back p) in
+    grind (arith, nat_tests, same))
 
 -- all of them
 pub patched_all : (m : Memory) (place n : ℕ) (xs : List ℕ) → n ≡ length xs → patched m place n (byte_in xs) ≡ written m place xs

@@ -83,12 +83,12 @@ module _ (l : Layout) (lawful : IsLawful l) where
       elim (cases_lt a 0x4300_0000) [
         | inl h ↦ in_the_link (in_link_is a h s).0 (in_link_is a h s).1 (place_in_link l a h)
         | inr g ↦ elim (cases_lt a 0x4400_0000) [
-            | inl h ↦ in_the_table g (in_table_is a g h s) (place_in_table l a g h)
-            | inr k ↦ elim (cases_lt a 0x4500_0000) [
-                | inl h ↦ in_the_list k (in_list_is a k h s) (place_in_list l a k h)
-                | inr i ↦ in_the_copies i (in_copies_is a i s) (place_in_copies l a i)
-              ]
+          | inl h ↦ in_the_table g (in_table_is a g h s) (place_in_table l a g h)
+          | inr k ↦ elim (cases_lt a 0x4500_0000) [
+            | inl h ↦ in_the_list k (in_list_is a k h s) (place_in_list l a k h)
+            | inr i ↦ in_the_copies i (in_copies_is a i s) (place_in_copies l a i)
           ]
+        ]
       ]
 
   -- ---- the places of the shared parts

@@ -8,6 +8,8 @@ mod mem;
 mod number;
 mod page_map;
 mod rights;
+#[cfg(test)]
+mod tests;
 
 pub use access::{Access, StoreFault, Width};
 pub use mem::Mem;

@@ -11,12 +11,15 @@ ghost use Rattle.hart_mem.specs.Access.{IsWidth, width_bytes};
 ghost use Rattle.hart_mem.specs.Paged.{pages_touched};
 ghost use Rattle.hart_mem.specs.Held.{IsOffText, data_byte, empty_space, lacks_frame, load_answer, shadow_words, most_frames, space_of, spare_of, store_answer, text_words};
 
-use crate::code::{code_at, word_at};
 use crate::access::{Access, StoreFault, Width};
+use crate::code::{code_at, word_at};
 use crate::page_map::PageMap;
 use crate::rights::{is_data, is_in_text, may_load_all, may_store_all, page_count, place_of};
 use rv_model::Bytes;
-use spec_base::{HELPER_WORDS, HELPERS_START, Layout, NoMemory, SHADOW_START, STUB_START, STUB_WORDS, Version, View};
+use spec_base::{
+    HELPER_WORDS, HELPERS_START, Layout, NoMemory, SHADOW_START, STUB_START, STUB_WORDS, Version,
+    View,
+};
 use std::alloc::Global;
 use std::marker::Model;
 
