@@ -8,3 +8,4 @@ pub mod SpaceLemmas
 pub mod ViewLemmas
 pub mod CodeLemmas
 pub mod MemLemmas
+pub mod Loading

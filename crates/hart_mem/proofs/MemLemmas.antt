@@ -1,5 +1,6 @@
 -- A whole memory: where its bytes stand, and what a change of its pages makes of it.
 use Rattle.std.proofs.Common.{◌≡◌, ℕ, zero, suc, take, ◌+◌, ◌-◌, ◌*◌, ◌/◌, ◌%◌, ◌^◌, ◌<◌, ◌≤◌, Bool, true, false, not, ◌&&◌, ◌||◌, ◌==◌, IsTrue, nat_lt, List, [], ◌∷◌, length, get_or, Option, Some, None, Result, Ok, Err, OnOk, OnErr, IsOk, eq-eqb, cond, refl, ap, sym, ◌∙◌, arith}
+use Rattle.std.proofs.lemmas.Bool.{false≢true}
 use Rattle.std.proofs.lemmas.Bool.Decides.{nat_tests}
 use Rattle.std.proofs.Math.Path.{fun_ext}
 use Rattle.std.specs.Int.{to_le_bytes, w64}
@@ -246,6 +247,10 @@ module _ (h : Held) (b : ℕ) where
       some_if t n e = rw e refl
 
 -- ---- spare frames
+
+pub no_spare : (held : Bool) (s : ℕ) → (held || nat_lt 0 s) ≡ false → s ≡ 0
+no_spare true s e = absurd (false≢true (sym e))
+no_spare false s e = grind (arith, nat_tests)
 
 pub spare_bounds : (held : Bool) (s n : ℕ) → n ≡ cond held s (s - 1) → (n ≤ s) × (s ≤ n + 1)
 spare_bounds true s n e = (omega arith, omega arith)

@@ -94,8 +94,8 @@ lacks_frame Program h a = lacks_frame_at h a
 lacks_frame Stub h a = false
 lacks_frame Shadow h a = false
 
-abbrev pub store_answer : View → Held → ℕ → ℕ → Result Unit StoreFault
-store_answer view h a width = store_if (a % width == 0) (all_from (rights_of view h.layout).store a width) (lacks_frame view h a)
+abbrev pub store_answer : View → Space → Bool → ℕ → ℕ → Result Unit StoreFault
+store_answer view s lacks a width = store_if (a % width == 0) (all_from (rights_of view s.layout).store a width) lacks
 
 -- the byte at an address that is data
 abbrev pub data_byte : Space → ℕ → Option ℕ

@@ -1,6 +1,6 @@
 //! The memory of a hart.
 
-ghost use Rattle.std.specs.Prelude.{ℕ, ◌≡◌, ◌+◌, ◌-◌, ◌*◌, ◌/◌, ◌%◌, ◌^◌, ◌<◌, ◌≤◌, ◌&&◌, not, ◌==◌, IsTrue, IsOk, true, false, length, vec_len, IfOk, OnOk, OnErr};
+ghost use Rattle.std.specs.Prelude.{ℕ, ◌≡◌, ◌+◌, ◌-◌, ◌*◌, ◌/◌, ◌%◌, ◌^◌, ◌<◌, ◌≤◌, ◌&&◌, not, ◌==◌, IsTrue, IsOk, true, false, length, vec_len, Err, IfOk, OnOk, OnErr};
 ghost use Rattle.spec_base.specs.Word.{byte_of};
 ghost use Rattle.spec_base.specs.Layout.{range_end, is_lawful};
 ghost use Rattle.rv_model.specs.Memory.{all_from, loaded, written};
@@ -249,6 +249,7 @@ impl Mem {
     /// Stores the lowest bytes of a value. `Unaligned` and `Out` as for a load, then `NoMemory`
     /// exactly where the page of the program range has no frame and none is spare. A store that
     /// is refused changes nothing.
+    #[tactic(auto, unfolding(crate::specs::Held::space_of))]
     pub fn store(
         &mut self,
         view: View,
@@ -256,9 +257,10 @@ impl Mem {
         width: Width,
         value: u64,
     ) -> Result<(), StoreFault>
-        ensures answer { result ≡ store_answer view self.old address (width_bytes width) }
+        ensures answer { result ≡ store_answer view (space_of self.old) (lacks_frame view self.old address) address (width_bytes width) }
         ensures ok { OnOk result (space_of self.new ≡ stored_in view (space_of self.old) address (width_bytes width) value) }
         ensures err { OnErr result (self.new ≡ self.old) }
+        ensures short { result ≡ Err StoreFault.NoMemory → spare_of self.old ≡ 0 }
         ensures spare { (spare_of self.new ≤ spare_of self.old) × (spare_of self.old ≤ spare_of self.new + 1) }
     {
         let size = width.bytes() as u64;
@@ -283,6 +285,7 @@ impl Mem {
         ensures answer { result ≡ not (lacks_frame view self.old address) }
         ensures ok { result ≡ true → space_of self.new ≡ stored_in view (space_of self.old) address size value }
         ensures err { result ≡ false → self.new ≡ self.old }
+        ensures short { result ≡ false → spare_of self.old ≡ 0 }
         ensures spare { (spare_of self.new ≤ spare_of self.old) × (spare_of self.old ≤ spare_of self.new + 1) }
     {
         let place = place_of(view, &self.layout, address) as usize;

@@ -5,7 +5,7 @@ use Rattle.hart_mem.specs.Held.{lacks_frame, spare_of}
 use Rattle.hart_mem.specs.Paged.{flat, is_held}
 use Rattle.hart_mem.specs.contracts.mem.Mem.{the_view}
 use Rattle.hart_mem.proofs.PlaceLemmas.{width_few}
-use Rattle.hart_mem.proofs.MemLemmas.{piece_stored, put_fits, put_found, put_inside, put_loads, spare_bounds, stored_space}
+use Rattle.hart_mem.proofs.MemLemmas.{no_spare, piece_stored, put_fits, put_found, put_inside, put_loads, spare_bounds, stored_space}
 use Rattle.hart_mem.proofs.mem.Mem.put.Goals as goal
 
 pub place_of-place-requires-clause-allowed : goal.place_of-place-requires-clause-allowed
@@ -23,6 +23,10 @@ returns-then-not-hold-clause-answer c =
     let all = rw (← c.self.view_is) at c.requires.allowed in
     let asked = rw c.place_of-place.ensures at c.hold.ensures.answer in
     rw (← c.self.view_is) (sym c.if-not-hold.true ∙ asked ∙ put_found (the_view c.self.inside) c.self.invariant c.args.view c.args.address c.args.size c.requires.size all)
+
+pub returns-then-not-hold-clause-short : goal.returns-then-not-hold-clause-short
+unfolding spare_of
+returns-then-not-hold-clause-short c = λ _. rw (← c.self.view_is) (no_spare (is_held c.self.inside.pages (c.place_of-place.result / 4096)) c.self.inside.pages.pool.spare (sym c.hold.ensures.answer ∙ c.if-not-hold.true))
 
 pub slice_bounds-bytes-end : goal.slice_bounds-bytes-end
 slice_bounds-bytes-end c = omega (arith, width_few c.args.size c.requires.size, ap length c.to_le_bytes-bytes.ensures)
