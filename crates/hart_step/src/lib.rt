@@ -1,0 +1,4 @@
+//! A hart, and one step of it in each view.
+#![tactic(auto)]
+
+mod arithmetic;
