@@ -2,3 +2,6 @@
 #![tactic(auto)]
 
 mod arithmetic;
+mod hart;
+
+pub use hart::Hart;
