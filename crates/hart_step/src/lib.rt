@@ -2,6 +2,10 @@
 #![tactic(auto)]
 
 mod arithmetic;
+mod event;
 mod hart;
+mod stepping;
 
+pub use event::Event;
 pub use hart::Hart;
+pub use stepping::step;
