@@ -28,6 +28,7 @@ use spec_base::{Reg, Trap, View};
 pub fn step(hart: &mut Hart, mem: &mut Mem) -> Event
     ensures outcome { outcome result (core_of hart.new) (space_of mem.new) ≡ stepped (lacks_frame (core_of hart.old).view mem.old) (effect_here (core_of hart.old) (space_of mem.old)) (core_of hart.old) (space_of mem.old) }
     ensures memory { result ≢ Event.Done → mem.new ≡ mem.old }
+    ensures starved { result ≡ Event.NoMemory → spare_of mem.old ≡ 0 }
     ensures spare { spare_of mem.old ≤ spare_of mem.new + 1 }
 {
     match mem.fetch(hart.view(), hart.pc()) {
