@@ -42,21 +42,9 @@ pub(crate) fn reg_result(op: RegOp, x: u64, y: u64) -> u64
         RegOp::Mulhsu => mulhsu(x, y),
         RegOp::Mulhu => mulhu(x, y),
         RegOp::Div => quotient(x, y),
-        RegOp::Divu => {
-            if y == 0 {
-                u64::MAX
-            } else {
-                x / y
-            }
-        }
+        RegOp::Divu => { if y == 0 { u64::MAX } else { x / y } }
         RegOp::Rem => remainder(x, y),
-        RegOp::Remu => {
-            if y == 0 {
-                x
-            } else {
-                x % y
-            }
-        }
+        RegOp::Remu => { if y == 0 { x } else { x % y } }
     }
 }
 

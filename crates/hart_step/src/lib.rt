@@ -5,6 +5,10 @@ mod arithmetic;
 mod event;
 mod hart;
 mod stepping;
+#[cfg(test)]
+mod tests;
+#[cfg(test)]
+mod vectors;
 
 pub use event::Event;
 pub use hart::Hart;
