@@ -1,0 +1,242 @@
+-- A memory in pages: what a byte is, and what a write and a new frame make of it.
+use Rattle.std.proofs.Common.{◌≡◌, ◌≢◌, ℕ, ◌+◌, ◌-◌, ◌*◌, ◌/◌, ◌%◌, ◌<◌, ◌≤◌, List, [], length, get_or, set, Bool, true, false, IsTrue, Option, Some, None, is_some, unwrap_or, IsSome, cond, refl, ap, sym, subst, ◌∙◌, arith, inl, inr}
+use Rattle.std.specs.List.{count_by, sum_by}
+use Rattle.std.proofs.lemmas.List.{get_or_past, get_or-set_same, get_or-set_other}
+use Rattle.std.proofs.lemmas.List.Sums.{sum_by-set, count_by-le-length}
+use Rattle.std.proofs.Math.ListN.{length-set}
+use Rattle.std.proofs.lemmas.Bool.{cases_eq, cases_lt, false≢true}
+use Rattle.std.proofs.lemmas.Bool.Decides.{nat_tests}
+use Rattle.std.proofs.Math.Path.{fun_ext}
+use Rattle.rv_model.specs.Memory.{Memory, loaded, patched, written}
+use Rattle.page_pool.specs.Pages.{blank_page, overwritten}
+use Rattle.page_pool.specs.Frames.{Frames, frame_at, bytes_at, IsInUse, IsTaken, IsWritten, KeepsOthers}
+use Rattle.page_pool.proofs.PageLemmas.{length-blank_page, get_or-blank_page}
+use Rattle.hart_mem.specs.Paged.{Paged, IsPage, IsSound, KeepsPages, byte_in, flat, frame_of, is_held, page_bytes}
+use Rattle.hart_mem.proofs.Numbers.{loaded_same, loaded_zero}
+use Rattle.hart_mem.proofs.Pieces.{byte_in-overwritten, length-overwritten}
+
+-- ---- bytes
+
+-- a byte of the page of a place, which has a frame
+flat_held : (p : Paged) (a k : ℕ) → frame_of p (a / 4096) ≡ Some k → flat p a ≡ byte_in (bytes_at p.pool k) (a % 4096)
+unfolding flat
+flat_held p a k e = rw e refl
+
+-- a page with no frame reads as zero
+pub flat_none : (p : Paged) (a : ℕ) → frame_of p (a / 4096) ≡ None → flat p a ≡ 0
+unfolding flat byte_in
+flat_none p a e = rw e refl
+
+-- a number in a page with a frame
+pub loaded_held : (p : Paged) (a n k : ℕ) → a % 4096 + n ≤ 4096 → frame_of p (a / 4096) ≡ Some k → loaded (byte_in (bytes_at p.pool k)) (a % 4096) n ≡ loaded (flat p) a n
+loaded_held p a n k fits e =
+    loaded_same _ _ n (a % 4096) a (λ i l.
+    let page : (a + i) / 4096 ≡ a / 4096 = omega arith in
+    let place : (a + i) % 4096 ≡ a % 4096 + i = omega arith in
+    sym (flat_held p (a + i) k (rw page e) ∙ ap (byte_in (bytes_at p.pool k)) place))
+
+-- a number in a page with none
+pub loaded_not_held : (p : Paged) (a n : ℕ) → a % 4096 + n ≤ 4096 → frame_of p (a / 4096) ≡ None → 0 ≡ loaded (flat p) a n
+loaded_not_held p a n fits e =
+    loaded_zero _ n a (λ i l.
+    let page : (a + i) / 4096 ≡ a / 4096 = omega arith in
+    flat_none p (a + i) (rw page e))
+
+-- a page with a frame is one of the table
+pub is_held-inside : (p : Paged) (page : ℕ) → IsTrue (is_held p page) → page < length p.table
+is_held-inside p page held =
+    elim (cases_lt page (length p.table)) [
+      | inl within ↦ within
+      | inr past ↦ absurd (let none : frame_of p page ≡ None = get_or_past p.table page None past in false≢true (sym (ap is_some none) ∙ held))
+    ]
+
+-- ---- a write in one page
+
+patch_apart : (m : Memory) (base n : ℕ) (f : Memory) (b : ℕ) → (base ≤ b → b < base + n → ⊥) → m b ≡ patched m base n f b
+unfolding patched
+patch_apart m base n f b h = grind (arith, nat_tests, h)
+
+-- a patch of two memories, at places that are as far from its start
+patch_moved : (m s : Memory) (a c n : ℕ) (f : Memory) (b d : ℕ) → b + c ≡ d + a → m b ≡ s d → patched m a n f b ≡ patched s c n f d
+unfolding patched
+patch_moved m s a c n f b d e h =
+    let less : a ≤ b → b - a ≡ d - c = λ q. omega arith in
+    grind (arith, nat_tests, less)
+
+bytes_of_page : (o : Option (List ℕ)) → IsPage o → length (unwrap_or o []) ≡ 4096
+bytes_of_page None h = absurd h
+bytes_of_page (Some bytes) h = h
+
+module _ (p : Paged) (sound : IsSound p) (new : Frames) (a k : ℕ) (bytes : List ℕ) (fits : a % 4096 + length bytes ≤ 4096) (here : frame_of p (a / 4096) ≡ Some k) (done : IsWritten p.pool new k (overwritten (bytes_at p.pool k) (a % 4096) bytes)) where
+  after : Paged
+  after = record { table = p.table; pool = new }
+
+  whole : a % 4096 + length bytes ≤ length (bytes_at p.pool k)
+  whole = omega (arith, bytes_of_page (frame_at p.pool k) (sound.pages (a / 4096) k here))
+
+  now_in : bytes_at new k ≡ overwritten (bytes_at p.pool k) (a % 4096) bytes
+  now_in = ap (λ o. unwrap_or o []) done.holds
+
+  -- a place in another page is no place of the write
+  off_page : (b : ℕ) → (b / 4096 ≡ a / 4096 → ⊥) → a ≤ b → b < a + length bytes → ⊥
+  off_page b other q r = other (omega arith)
+
+  written_byte : (b : ℕ) (o : Option ℕ) → frame_of p (b / 4096) ≡ o → byte_in (page_bytes new o) (b % 4096) ≡ written (flat p) a bytes b
+  unfolding byte_in
+  written_byte b None e =
+      let other : b / 4096 ≡ a / 4096 → ⊥ = λ q. (let same : frame_of p (b / 4096) ≡ frame_of p (a / 4096) = ap (λ (i : ℕ). frame_of p i) q in cc) in
+      sym (flat_none p b e) ∙ patch_apart (flat p) a (length bytes) _ b (off_page b other)
+  written_byte b (Some f) e =
+      elim (cases_eq f k) [
+        | inl same ↦
+            (let page : b / 4096 ≡ a / 4096 = sound.own (b / 4096) (a / 4096) k (e ∙ ap (λ (x : ℕ). Some x) same) here in
+            let old : byte_in (bytes_at p.pool k) (b % 4096) ≡ flat p b = sym (flat_held p b k (e ∙ ap (λ (x : ℕ). Some x) same)) in
+            ap (λ (x : ℕ). byte_in (bytes_at new x) (b % 4096)) same ∙ ap (λ xs. byte_in xs (b % 4096)) now_in ∙ ap (λ (m : Memory). m (b % 4096)) (byte_in-overwritten (bytes_at p.pool k) bytes (a % 4096) whole) ∙ patch_moved (byte_in (bytes_at p.pool k)) (flat p) (a % 4096) a (length bytes) _ (b % 4096) b (omega arith) old)
+        | inr apart ↦
+            (let other : b / 4096 ≡ a / 4096 → ⊥ = λ q. (let same : frame_of p (b / 4096) ≡ frame_of p (a / 4096) = ap (λ (i : ℕ). frame_of p i) q in apart (cc)) in
+            let kept : bytes_at new f ≡ bytes_at p.pool f = ap (λ o. unwrap_or o []) (done.others f apart) in
+            ap (λ xs. byte_in xs (b % 4096)) kept ∙ sym (flat_held p b f e) ∙ patch_apart (flat p) a (length bytes) _ b (off_page b other))
+      ]
+
+  pub flat-written : flat (record { table = p.table; pool = new }) ≡ written (flat p) a bytes
+  unfolding flat
+  flat-written = fun_ext (λ b. written_byte b (frame_of p (b / 4096)) refl)
+
+  page_after : (f : ℕ) → IsPage (frame_at p.pool f) → IsPage (frame_at new f)
+  page_after f h =
+      elim (cases_eq f k) [
+        | inl same ↦ subst IsPage (sym (ap (frame_at new) same ∙ done.holds)) (length-overwritten (bytes_at p.pool k) bytes (a % 4096) whole ∙ bytes_of_page (frame_at p.pool k) (sound.pages (a / 4096) k here))
+        | inr apart ↦ subst IsPage (sym (done.others f apart)) h
+      ]
+
+  pub IsSound-written : IsSound (record { table = p.table; pool = new })
+  IsSound-written =
+      record {
+        own = sound.own;
+        pages = λ page f e. page_after f (sound.pages page f e);
+        counted = omega (arith, sound.counted, done.in_use);
+        room = omega (arith, sound.room, done.most);
+      }
+
+-- ---- a frame for a page that has none
+
+some_is : (o : Option ℕ) → is_some o ≡ false → o ≡ None
+some_is None e = refl
+some_is (Some k) e = cc
+
+is_page_some : (o : Option (List ℕ)) → IsPage o → o ≡ None → ⊥
+is_page_some None h e = h
+is_page_some (Some bytes) h e = cc
+
+abbrev held_count : Option ℕ → ℕ
+held_count o = cond (is_some o) 1 0
+
+count_by-set : (table : List (Option ℕ)) (page k : ℕ) → page < length table → is_some (let none : Option ℕ = None in get_or table page none) ≡ false → count_by is_some (set table page (Some k)) ≡ count_by is_some table + 1
+count_by-set table page k inside free =
+    let none : Option ℕ = None in
+    let step : sum_by held_count (set table page (Some k)) + held_count (get_or table page none) ≡ sum_by held_count table + 1 = sum_by-set held_count table page (Some k) none inside in
+    let nothing : held_count (get_or table page none) ≡ 0 = ap (λ b. cond b 1 0) free in
+    omega arith
+
+module _ (p : Paged) (sound : IsSound p) (new : Frames) (page k : ℕ) (inside : page < length p.table) (free : is_held p page ≡ false) (taken : IsTaken p.pool new k) where
+  table : List (Option ℕ)
+  table = set p.table page (Some k)
+
+  abbrev entry : ℕ → Option ℕ
+  entry i = (let nothing : Option ℕ = None in get_or (set p.table page (Some k)) i nothing)
+
+  entry_here : (i : ℕ) → i ≡ page → entry i ≡ Some k
+  entry_here i e = rw e (get_or-set_same p.table page (Some k) None inside)
+
+  entry_else : (i : ℕ) → (i ≡ page → ⊥) → entry i ≡ frame_of p i
+  entry_else i apart = get_or-set_other p.table page i (Some k) None apart
+
+  was_none : frame_of p page ≡ None
+  was_none = some_is (frame_of p page) free
+
+  -- a frame that a page has isn't the new one
+  apart_from : (i f : ℕ) → frame_of p i ≡ Some f → f ≡ k → ⊥
+  apart_from i f e same = is_page_some (frame_at p.pool f) (sound.pages i f e) (ap (frame_at p.pool) same ∙ taken.was_free)
+
+  same_bytes : (i : ℕ) (o : Option ℕ) → frame_of p i ≡ o → page_bytes new o ≡ page_bytes p.pool o
+  same_bytes i None e = refl
+  same_bytes i (Some f) e = ap (λ o. unwrap_or o []) (taken.others f (apart_from i f e))
+
+  blank_byte : (i : ℕ) → byte_in (bytes_at new k) i ≡ 0
+  unfolding byte_in
+  blank_byte i = ap (λ (o : Option (List ℕ)). get_or (unwrap_or o []) i 0) taken.blank ∙ get_or-blank_page i
+
+  held_byte : (b : ℕ) → byte_in (page_bytes new (entry (b / 4096))) (b % 4096) ≡ flat p b
+  unfolding flat
+  held_byte b =
+      elim (cases_eq (b / 4096) page) [
+        | inl same ↦
+            (let old : flat p b ≡ 0 = flat_none p b (ap (frame_of p) same ∙ was_none) in
+            ap (λ o. byte_in (page_bytes new o) (b % 4096)) (entry_here (b / 4096) same) ∙ blank_byte (b % 4096) ∙ sym old)
+        | inr apart ↦
+            ap (λ o. byte_in (page_bytes new o) (b % 4096)) (entry_else (b / 4096) apart) ∙ ap (λ xs. byte_in xs (b % 4096)) (same_bytes (b / 4096) (frame_of p (b / 4096)) refl)
+      ]
+
+  pub flat-held : flat (record { table = set p.table page (Some k); pool = new }) ≡ flat p
+  unfolding flat
+  flat-held = fun_ext held_byte
+
+  own_after : (i j f : ℕ) → entry i ≡ Some f → entry j ≡ Some f → i ≡ j
+  own_after i j f e g =
+      elim (cases_eq i page) [
+        | inl here ↦ elim (cases_eq j page) [
+          | inl there ↦ here ∙ sym there
+          | inr other ↦ absurd (apart_from j f (sym (entry_else j other) ∙ g) (let h : entry i ≡ Some k = entry_here i here in cc))
+        ]
+        | inr apart ↦ elim (cases_eq j page) [
+          | inl there ↦ absurd (apart_from i f (sym (entry_else i apart) ∙ e) (let h : entry j ≡ Some k = entry_here j there in cc))
+          | inr other ↦ sound.own i j f (sym (entry_else i apart) ∙ e) (sym (entry_else j other) ∙ g)
+        ]
+      ]
+
+  pages_after : (i f : ℕ) → entry i ≡ Some f → IsPage (frame_at new f)
+  pages_after i f e =
+      elim (cases_eq i page) [
+        | inl here ↦ (let same : f ≡ k = (let h : entry i ≡ Some k = entry_here i here in cc) in
+            subst IsPage (sym (ap (frame_at new) same ∙ taken.blank)) length-blank_page)
+        | inr apart ↦ (let was : frame_of p i ≡ Some f = sym (entry_else i apart) ∙ e in
+            subst IsPage (sym (taken.others f (apart_from i f was))) (sound.pages i f was))
+      ]
+
+  one_more : count_by is_some (set p.table page (Some k)) ≡ count_by is_some p.table + 1
+  one_more = count_by-set p.table page k inside free
+
+  pub IsSound-held : IsSound (record { table = set p.table page (Some k); pool = new })
+  IsSound-held =
+      record {
+        own = own_after;
+        pages = pages_after;
+        counted = omega (arith, one_more, sound.counted, taken.in_use);
+        room = omega (arith, sound.room, taken.most, length-set p.table page (Some k));
+      }
+
+  held_after : (i : ℕ) → IsTrue (is_held p i) → IsTrue (is_some (entry i))
+  held_after i held =
+      elim (cases_eq i page) [
+        | inl here ↦ rw (entry_here i here) refl
+        | inr apart ↦ rw (entry_else i apart) held
+      ]
+
+  pub KeepsPages-held : KeepsPages p (record { table = set p.table page (Some k); pool = new })
+  KeepsPages-held = record { length = length-set p.table page (Some k); held = held_after }
+
+-- ---- pages kept
+
+pub KeepsPages-same : (old new : Paged) → new.table ≡ old.table → KeepsPages old new
+KeepsPages-same old new e =
+    record {
+      length = ap length e;
+      held = λ page held. subst (λ (t : List (Option ℕ)). let none : Option ℕ = None in IsTrue (is_some (get_or t page none))) (sym e) held;
+    }
+
+pub KeepsPages-then : (a b c : Paged) → KeepsPages a b → KeepsPages b c → KeepsPages a c
+KeepsPages-then a b c first second =
+    record {
+      length = second.length ∙ first.length;
+      held = λ page h. second.held page (first.held page h);
+    }

@@ -1,0 +1,18 @@
+use Rattle.std.proofs.Common.{◌≡◌, ◌≤◌, ℕ, ap, arith}
+use Rattle.page_pool.specs.Frames.{Frames}
+use Rattle.hart_mem.specs.Held.{Held, spare_of}
+use Rattle.hart_mem.proofs.MemLemmas.{empty_spaced, flat_new}
+use Rattle.hart_mem.proofs.mem.Mem.new.Goals as goal
+
+pub returns-clause-space : goal.returns-clause-space
+returns-clause-space c =
+    let made : Held = record { layout = c.args.layout; text = c.args.text.items; shadow = c.new-2.result.items; helpers = c.new-3.result.items; stub = c.new-4.result.items; pages = c.obtain_all.new.self } in
+    empty_spaced made c.new-2.ensures.items c.new-3.ensures.items c.new-4.ensures.items (flat_new c.in_ok-pages.pages c.obtain_all.new.self _ _ c.in_ok-pages.ensures c.obtain_all.ensures.bytes)
+
+pub returns-clause-spare : goal.returns-clause-spare
+unfolding spare_of
+returns-clause-spare c =
+    let none : c.in_ok-pages.pages.pool.spare ≡ 0 = ap (λ (p : Frames). p.spare) c.in_ok-pages.ensures.pool in
+    let no_more : c.obtain_all.new.self.pool.spare ≤ c.in_ok-pages.pages.pool.spare = c.obtain_all.ensures.no_more in
+    let e : c.obtain_all.new.self.pool.spare ≡ 0 = omega arith in
+    e

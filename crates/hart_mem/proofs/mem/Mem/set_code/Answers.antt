@@ -1,0 +1,11 @@
+use Rattle.std.proofs.Common.{◌≡◌, ◌≤◌, length, vec_len, arith}
+use Rattle.hart_mem.specs.Held.{space_of}
+use Rattle.hart_mem.specs.contracts.mem.Mem.{the_view}
+use Rattle.hart_mem.proofs.MemLemmas.{coded_space}
+use Rattle.hart_mem.proofs.mem.Mem.set_code.Goals as goal
+
+pub returns-clause-space : goal.returns-clause-space
+unfolding space_of
+returns-clause-space c =
+    let shadow : 1 ≤ length c.args.shadow.items = omega (arith, c.requires.shadow) in
+    rw (← c.self.view_is) (coded_space (the_view c.self.inside) c.args.shadow.items c.args.helpers.items c.args.stub.items shadow (omega (arith, c.requires.helpers)) (omega (arith, c.requires.stub)))

@@ -1,0 +1,4 @@
+pub mod Access
+pub mod Paged
+pub mod Places
+pub mod Held

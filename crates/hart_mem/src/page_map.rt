@@ -1,0 +1,207 @@
+//! A flat memory in pages: each page has a frame of a pool, or none and reads as zero.
+
+ghost use Rattle.std.specs.Prelude.{◌≡◌, ◌≢◌, ◌+◌, ◌-◌, ◌*◌, ◌/◌, ◌%◌, ◌^◌, ◌<◌, ◌≤◌, ◌||◌, ◌⊎◌, IsTrue, nat_lt, if◌then◌else◌, true, false, length, Err, IfOk, OnOk, OnErr};
+ghost use Rattle.page_pool.specs.Frames.{reserved};
+ghost use Rattle.rv_model.specs.Memory.{loaded, written};
+ghost use Rattle.hart_mem.specs.Paged.{flat, is_held, IsEmpty, AreHeld, KeepsPages, end_page, pages_touched};
+
+use crate::number::number;
+use page_pool::{Frame, PAGE_BYTES, Pool, PoolFault};
+use spec_base::NoMemory;
+use std::alloc::Global;
+use std::marker::Model;
+
+/// A contract sees the frame's number of each page, and the pool.
+#[derive(Drop)]
+pub(crate) struct PageMap {
+    table: Vec<Option<Frame>>,
+    pool: Pool,
+}
+
+impl Model for PageMap {
+    ghost use Rattle.hart_mem.specs.Paged.{Paged};
+
+    ghost Value = { Paged };
+
+    ghost use Rattle.hart_mem.specs.Paged.{IsSound};
+
+    ghost view = { λ m. record { table = m.table.items; pool = m.pool } };
+
+    ghost invariant = { λ m. IsSound (record { table = m.table.items; pool = m.pool }) };
+}
+
+impl PageMap {
+    /// A memory of so many pages, none of which has a frame. The pool's bound leaves room for
+    /// each of them, and for 17 spare frames.
+    pub fn new(alloc: Global, pages: usize, most: usize) -> Result<PageMap, NoMemory>
+        requires { pages + 17 ≤ most }
+        ensures { IfOk result (λ map. IsEmpty map pages most) }
+    {
+        let mut table = Vec::new(alloc);
+        for _ in 0..pages {
+            table.push(None)?;
+        }
+        Ok(PageMap {
+            table,
+            pool: Pool::new(alloc, most),
+        })
+    }
+
+    /// How many frames are spare.
+    pub fn spare(&self) -> usize
+        ensures { result ≡ self.now.pool.spare }
+    {
+        self.pool.spare()
+    }
+
+    /// Whether a page has a frame.
+    pub fn is_held(&self, page: usize) -> bool
+        requires { page < length self.now.table }
+        ensures { result ≡ is_held self.now page }
+    {
+        self.table[page].is_some()
+    }
+
+    // The pool's bound leaves room for these, so the pool is never full.
+    fn reserve_frames(&mut self, n: usize) -> Result<(), PoolFault>
+        requires { n ≤ 17 }
+        ensures never_full { result ≢ Err PoolFault.Full }
+        ensures ok { OnOk result (self.new ≡ record self.old { pool = reserved self.old.pool n }) }
+        ensures refused { OnErr result (self.new ≡ self.old) }
+    {
+        self.pool.reserve(n)
+    }
+
+    /// Sees to it that at least `n` frames are spare.
+    #[tactic(auto, unfolding(crate::specs::Paged::flat))]
+    pub fn reserve(&mut self, n: usize) -> Result<(), NoMemory>
+        requires { n ≤ 17 }
+        ensures ok { OnOk result (self.new ≡ record self.old { pool = reserved self.old.pool n }) }
+        ensures bytes { flat self.new ≡ flat self.old }
+        ensures more { self.old.pool.spare ≤ self.new.pool.spare }
+        ensures refused { OnErr result (self.new ≡ self.old) }
+    {
+        match self.reserve_frames(n) {
+            Ok(()) => Ok(()),
+            Err(_) => Err(NoMemory),
+        }
+    }
+
+    /// Gives a page a frame, where it has none. False where none is spare.
+    pub fn hold(&mut self, page: usize) -> bool
+        requires { page < length self.old.table }
+        ensures answer { result ≡ (is_held self.old page || nat_lt 0 self.old.pool.spare) }
+        ensures held { result ≡ true → IsTrue (is_held self.new page) }
+        ensures refused { result ≡ false → self.new ≡ self.old }
+        ensures bytes { flat self.new ≡ flat self.old }
+        ensures pages { KeepsPages self.old self.new }
+        ensures spare { self.new.pool.spare ≡ (if is_held self.old page then self.old.pool.spare else self.old.pool.spare - 1) }
+    {
+        if self.table[page].is_some() {
+            return true;
+        }
+        let Some(frame) = self.pool.take() else {
+            return false;
+        };
+        self.table[page] = Some(frame);
+        true
+    }
+
+    /// The number of the `size` bytes from a place on, which lie in one page.
+    pub fn load(&self, place: usize, size: usize) -> u64
+        requires size { size ≤ 8 }
+        requires inside { place / 4096 < length self.now.table }
+        requires fits { place % 4096 + size ≤ 4096 }
+        ensures value { result ≡ loaded (flat self.now) place size }
+        ensures bound { result < 2 ^ (8 * size) }
+    {
+        match &self.table[place / PAGE_BYTES] {
+            Some(frame) => number(self.pool.bytes(frame), place % PAGE_BYTES, size),
+            None => 0,
+        }
+    }
+
+    /// Writes bytes from a place on, all in one page, which has a frame.
+    pub fn write(&mut self, place: usize, bytes: &[u8])
+        requires held { IsTrue (is_held self.old (place / 4096)) }
+        requires fits { place % 4096 + length bytes.now ≤ 4096 }
+        ensures bytes { flat self.new ≡ written (flat self.old) place bytes.now }
+        ensures table { self.new.table ≡ self.old.table }
+        ensures spare { self.new.pool.spare ≡ self.old.pool.spare }
+    {
+        if let Some(frame) = &self.table[place / PAGE_BYTES] {
+            self.pool.write(frame, place % PAGE_BYTES, bytes);
+        }
+    }
+
+    /// Gives a page a frame, where it has none, and allocates one where none is spare.
+    fn obtain(&mut self, page: usize) -> Result<(), NoMemory>
+        requires { page < length self.old.table }
+        ensures held { OnOk result (IsTrue (is_held self.new page)) }
+        ensures short { OnErr result (self.old.pool.spare ≡ 0) }
+        ensures bytes { flat self.new ≡ flat self.old }
+        ensures pages { KeepsPages self.old self.new }
+        ensures spare { self.new.pool.spare ≡ (if is_held self.old page then self.old.pool.spare else self.old.pool.spare - 1) }
+    {
+        if self.hold(page) {
+            return Ok(());
+        }
+        self.reserve(1)?;
+        self.hold(page);
+        Ok(())
+    }
+
+    /// Gives each page from `first` up to `end` a frame. Where memory is wanting, some have one,
+    /// and the memory is the same.
+    pub fn obtain_all(&mut self, first: usize, end: usize) -> Result<(), NoMemory>
+        requires order { first ≤ end }
+        requires inside { end ≤ length self.old.table }
+        ensures held { OnOk result (AreHeld self.new first end) }
+        ensures short { OnErr result (self.old.pool.spare < end - first) }
+        ensures bytes { flat self.new ≡ flat self.old }
+        ensures pages { KeepsPages self.old self.new }
+        ensures spare { self.old.pool.spare ≤ self.new.pool.spare + (end - first) }
+        ensures no_more { self.new.pool.spare ≤ self.old.pool.spare }
+    {
+        for page in first..end {
+            self.obtain(page)?;
+        }
+        Ok(())
+    }
+
+    /// Writes bytes from a place on, in pages that have frames.
+    fn write_all(&mut self, place: usize, bytes: &[u8])
+        requires held { AreHeld self.old (place / 4096) (end_page place (length bytes.now)) }
+        requires fits { place + length bytes.now < 2 ^ 62 }
+        ensures bytes { flat self.new ≡ written (flat self.old) place bytes.now }
+        ensures table { self.new.table ≡ self.old.table }
+        ensures spare { self.new.pool.spare ≡ self.old.pool.spare }
+    {
+        let mut done = 0;
+        while done < bytes.len() {
+            let at = place + done;
+            let end = bytes.len().min(done + (PAGE_BYTES - at % PAGE_BYTES));
+            self.write(at, &bytes[done..end]);
+            done = end;
+        }
+    }
+
+    /// Writes bytes from a place on, and gives their pages frames. Where memory is wanting, the
+    /// memory is the same.
+    pub fn fill(&mut self, place: usize, bytes: &[u8]) -> Result<(), NoMemory>
+        requires inside { place + length bytes.now ≤ 4096 * length self.old.table }
+        requires fits { place + length bytes.now < 2 ^ 62 }
+        ensures ok { OnOk result (flat self.new ≡ written (flat self.old) place bytes.now) }
+        ensures err { OnErr result (flat self.new ≡ flat self.old) }
+        ensures short { OnErr result (self.old.pool.spare < pages_touched place (length bytes.now)) }
+        ensures pages { KeepsPages self.old self.new }
+        ensures spare { self.old.pool.spare ≤ self.new.pool.spare + pages_touched place (length bytes.now) }
+        ensures no_more { self.new.pool.spare ≤ self.old.pool.spare }
+    {
+        let first = place / PAGE_BYTES;
+        let end = (place + bytes.len() + (PAGE_BYTES - 1)) / PAGE_BYTES;
+        self.obtain_all(first, end)?;
+        self.write_all(place, bytes);
+        Ok(())
+    }
+}
