@@ -29,7 +29,7 @@ pub fn step(hart: &mut Hart, mem: &mut Mem) -> Event
     ensures outcome { outcome result (core_of hart.new) (space_of mem.new) ≡ stepped (lacks_frame (core_of hart.old).view mem.old) (effect_here (core_of hart.old) (space_of mem.old)) (core_of hart.old) (space_of mem.old) }
     ensures memory { result ≢ Event.Done → mem.new ≡ mem.old }
     ensures starved { result ≡ Event.NoMemory → spare_of mem.old ≡ 0 }
-    ensures spare { spare_of mem.old ≤ spare_of mem.new + 1 }
+    ensures spare { (spare_of mem.new ≤ spare_of mem.old) × (spare_of mem.old ≤ spare_of mem.new + 1) }
 {
     match mem.fetch(hart.view(), hart.pc()) {
         Some(word) => execute(hart, mem, decode(word)),
@@ -41,7 +41,7 @@ pub fn step(hart: &mut Hart, mem: &mut Mem) -> Event
 fn execute(hart: &mut Hart, mem: &mut Mem, instr: Instr) -> Event
     ensures outcome { outcome result (core_of hart.new) (space_of mem.new) ≡ stepped (lacks_frame (core_of hart.old).view mem.old) (effect_of (core_of hart.old) (space_of mem.old) instr) (core_of hart.old) (space_of mem.old) }
     ensures memory { result ≢ Event.Done → mem.new ≡ mem.old }
-    ensures spare { spare_of mem.old ≤ spare_of mem.new + 1 }
+    ensures spare { (spare_of mem.new ≤ spare_of mem.old) × (spare_of mem.old ≤ spare_of mem.new + 1) }
 {
     match instr {
         Instr::Lui { rd, imm } => hart.complete(rd, word_of(imm)),
@@ -221,7 +221,7 @@ fn load(hart: &mut Hart, mem: &Mem, op: LoadOp, rd: Reg, address: u64) -> Event
 fn store(hart: &mut Hart, mem: &mut Mem, op: StoreOp, address: u64, value: u64) -> Event
     ensures outcome { outcome result (core_of hart.new) (space_of mem.new) ≡ stepped (lacks_frame (core_of hart.old).view mem.old) (store_effect (rights_of (core_of hart.old).view (space_of mem.old).layout) address (bytes_of_store op) value) (core_of hart.old) (space_of mem.old) }
     ensures memory { result ≢ Event.Done → mem.new ≡ mem.old }
-    ensures spare { spare_of mem.old ≤ spare_of mem.new + 1 }
+    ensures spare { (spare_of mem.new ≤ spare_of mem.old) × (spare_of mem.old ≤ spare_of mem.new + 1) }
 {
     match mem.store(hart.view(), address, store_width(op), value) {
         Ok(()) => hart.complete_without_result(),
