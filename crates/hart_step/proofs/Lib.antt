@@ -1,0 +1,3 @@
+pub mod Registers
+mod Starved
+mod Stores

@@ -1,0 +1,41 @@
+-- Registers kept in a list.
+use Rattle.std.proofs.Common.{◌≡◌, ◌≢◌, ℕ, zero, suc, ◌+◌, ◌<◌, List, [], ◌∷◌, length, set, get_or, slice_index, arith, inl, inr, refl}
+use Rattle.std.proofs.lemmas.List.{get_or-set_same, get_or-set_other, get_or-replicate, get_or_past, length-replicate}
+use Rattle.std.proofs.lemmas.Bool.{cases_eq, cases_lt}
+use Rattle.std.proofs.lemmas.Bool.Decides.{nat_tests}
+use Rattle.std.proofs.Math.Path.{fun_ext}
+use Rattle.std.proofs.Math.ListN.{replicate}
+use Rattle.rv_model.specs.Registers.{Registers, all_zero, reg, with_reg}
+use Rattle.hart_step.specs.Core.{registers_of}
+
+-- x0 reads as 0, as the list has it
+pub reg_of : (rs : List ℕ) (n : ℕ) → slice_index rs 0 ≡ 0 → slice_index rs n ≡ reg (registers_of rs) n
+unfolding registers_of
+reg_of rs zero h = h
+reg_of rs (suc n) h = refl
+
+-- a register is written
+pub registers_set : (rs : List ℕ) (n v : ℕ) → n ≢ 0 → n < length rs → registers_of (set rs n v) ≡ with_reg (registers_of rs) n v
+unfolding registers_of
+registers_set rs zero v h l = absurd (h refl)
+registers_set rs (suc n) v h l = fun_ext (λ k.
+    elim (cases_eq k (suc n)) [
+      | inl p ↦ (let s : get_or (set rs (suc n) v) k 0 ≡ v = rw p (get_or-set_same rs (suc n) v 0 l) in grind (arith, nat_tests))
+      | inr p ↦ (let s : get_or (set rs (suc n) v) k 0 ≡ get_or rs k 0 = get_or-set_other rs (suc n) k v 0 p in grind (arith, nat_tests))
+    ])
+
+-- x0 isn't written
+pub with_x0 : (rs : Registers) (n v : ℕ) → n ≡ 0 → rs ≡ with_reg rs n v
+with_x0 rs zero v h = refl
+with_x0 rs (suc n) v h = absurd (omega arith)
+
+zero_anywhere : (n k : ℕ) → get_or (replicate {A = ℕ} n 0) k 0 ≡ 0
+zero_anywhere n k = elim (cases_lt k n) [
+  | inl p ↦ get_or-replicate n k 0 0 p
+  | inr p ↦ get_or_past (replicate {A = ℕ} n 0) k 0 (rw length-replicate p)
+]
+
+-- all are 0
+pub registers_zero : (n : ℕ) → registers_of (replicate {A = ℕ} n 0) ≡ all_zero
+unfolding registers_of
+registers_zero n = fun_ext (λ k. grind (arith, nat_tests, zero_anywhere n k))
