@@ -1,5 +1,5 @@
 -- The parts of a memory begin and end at multiples of 4, so that an aligned access is decided by its first and its last byte.
-use Rattle.std.proofs.Common.{◌≡◌, ℕ, zero, suc, ◌+◌, ◌-◌, ◌*◌, ◌/◌, ◌%◌, ◌^◌, ◌<◌, ◌≤◌, Bool, true, false, not, ◌&&◌, ◌||◌, IsTrue, nat_le, nat_lt, refl, ap, sym, ◌∙◌, arith}
+use Rattle.std.proofs.Common.{◌≡◌, ℕ, ◌+◌, ◌-◌, ◌*◌, ◌/◌, ◌%◌, ◌<◌, ◌≤◌, Bool, true, false, not, ◌&&◌, ◌||◌, IsTrue, nat_le, nat_lt, refl, ap, arith}
 use Rattle.std.proofs.lemmas.Bool.Decides.{nat_tests}
 use Rattle.spec_base.specs.Layout.{range_end, image_limit, is_lawful}
 use Rattle.spec_base.specs.declared.layout.Version.{Version}
@@ -8,7 +8,7 @@ use Rattle.spec_base.specs.declared.layout.Layout.{Layout}
 use Rattle.spec_base.specs.declared.machine.View.{View}
 use Rattle.spec_base.specs.declared.machine.View.TheVariants.{Plain, Program, Stub, Shadow}
 use Rattle.rv_model.specs.Memory.{is_within, all_from}
-use Rattle.rv_model.specs.Rights.{in_range, in_text, is_data, in_private, in_link, in_table, in_list, in_copies, in_shared, list_bytes, rights_of}
+use Rattle.rv_model.specs.Rights.{in_range, in_text, is_data, in_private, in_link, in_shared, list_bytes, rights_of}
 use Rattle.hart_mem.specs.Access.{IsWidth, one, two, four, eight}
 
 -- ---- layouts

@@ -1,5 +1,5 @@
 -- Parts of a program that are loaded one after another.
-use Rattle.std.proofs.Common.{◌≡◌, ℕ, ◌<◌, ◌≤◌, Bool, true, false, List, [], ◌∷◌, ◌++◌, length, get_or, refl, sym, ◌∙◌}
+use Rattle.std.proofs.Common.{◌≡◌, ℕ, Bool, true, false, List, [], ◌∷◌, ◌++◌, length, get_or, refl}
 use Rattle.std.proofs.Math.Path.{fun_ext}
 use Rattle.spec_base.specs.declared.layout.Layout.{Layout}
 use Rattle.rv_model.specs.Memory.{Memory, written}

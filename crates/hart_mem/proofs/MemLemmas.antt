@@ -1,5 +1,5 @@
 -- A whole memory: where its bytes stand, and what a change of its pages makes of it.
-use Rattle.std.proofs.Common.{◌≡◌, ℕ, zero, suc, take, ◌+◌, ◌-◌, ◌*◌, ◌/◌, ◌%◌, ◌^◌, ◌<◌, ◌≤◌, Bool, true, false, not, ◌&&◌, ◌||◌, ◌==◌, IsTrue, nat_lt, List, [], ◌∷◌, length, get_or, Option, Some, None, Result, Ok, Err, OnOk, OnErr, IsOk, eq-eqb, cond, refl, ap, sym, ◌∙◌, arith}
+use Rattle.std.proofs.Common.{◌≡◌, ℕ, zero, suc, take, ◌+◌, ◌-◌, ◌*◌, ◌/◌, ◌%◌, ◌<◌, ◌≤◌, Bool, true, false, not, ◌&&◌, ◌||◌, ◌==◌, IsTrue, nat_lt, List, [], length, get_or, Option, Some, None, Result, Ok, Err, OnOk, OnErr, IsOk, eq-eqb, cond, refl, ap, sym, ◌∙◌, arith}
 use Rattle.std.proofs.lemmas.Bool.{false≢true}
 use Rattle.std.proofs.lemmas.Bool.Decides.{nat_tests}
 use Rattle.std.proofs.Math.Path.{fun_ext}
@@ -8,7 +8,6 @@ use Rattle.std.proofs.lemmas.List.{get_or-take, length-take-le}
 use Rattle.spec_base.specs.declared.memory_fault.NoMemory.{NoMemory}
 use Rattle.spec_base.specs.Word.{byte_of}
 use Rattle.spec_base.specs.Layout.{range_end}
-use Rattle.spec_base.specs.declared.layout.Layout.{Layout}
 use Rattle.spec_base.specs.declared.machine.View.{View}
 use Rattle.spec_base.specs.declared.machine.View.TheVariants.{Plain, Program, Stub, Shadow}
 use Rattle.rv_model.specs.Memory.{Memory, loaded, patched, stored, written, all_from}
@@ -16,7 +15,7 @@ use Rattle.rv_model.specs.Rights.{in_private, in_range, in_shared, in_text, is_d
 use Rattle.rv_model.specs.Space.{Space, sees, stored_in, text_byte}
 use Rattle.program_model.specs.Loading.{data_of}
 use Rattle.hart_mem.specs.Access.{IsWidth}
-use Rattle.hart_mem.specs.Paged.{Paged, IsEmpty, KeepsPages, flat, frame_of, is_held, page_bytes, pages_touched, byte_in}
+use Rattle.hart_mem.specs.Paged.{Paged, IsEmpty, flat, is_held, pages_touched}
 use Rattle.hart_mem.specs.Places.{place_of, shared_place, stub_place, shadow_place}
 use Rattle.hart_mem.specs.Held.{Held, IsOffText, IsWhole, code_or_zeros, data_byte, empty_space, lacks_frame, load_answer, load_if, shadow_words, part, space_of, zeros}
 use Rattle.hart_mem.specs.declared.access.Access.{Access}

@@ -1,15 +1,15 @@
 -- A memory in pages: what a byte is, and what a write and a new frame make of it.
-use Rattle.std.proofs.Common.{◌≡◌, ◌≢◌, ℕ, ◌+◌, ◌-◌, ◌*◌, ◌/◌, ◌%◌, ◌<◌, ◌≤◌, List, [], length, get_or, set, Bool, true, false, IsTrue, Option, Some, None, is_some, unwrap_or, IsSome, cond, refl, ap, sym, subst, ◌∙◌, arith, inl, inr}
+use Rattle.std.proofs.Common.{◌≡◌, ℕ, ◌+◌, ◌-◌, ◌/◌, ◌%◌, ◌<◌, ◌≤◌, List, [], length, get_or, set, false, IsTrue, Option, Some, None, is_some, unwrap_or, cond, refl, ap, sym, subst, ◌∙◌, arith, inl, inr}
 use Rattle.std.specs.List.{count_by, sum_by}
 use Rattle.std.proofs.lemmas.List.{get_or_past, get_or-set_same, get_or-set_other}
-use Rattle.std.proofs.lemmas.List.Sums.{sum_by-set, count_by-le-length}
+use Rattle.std.proofs.lemmas.List.Sums.{sum_by-set}
 use Rattle.std.proofs.Math.ListN.{length-set}
 use Rattle.std.proofs.lemmas.Bool.{cases_eq, cases_lt, false≢true}
 use Rattle.std.proofs.lemmas.Bool.Decides.{nat_tests}
 use Rattle.std.proofs.Math.Path.{fun_ext}
 use Rattle.rv_model.specs.Memory.{Memory, loaded, patched, written}
-use Rattle.page_pool.specs.Pages.{blank_page, overwritten}
-use Rattle.page_pool.specs.Frames.{Frames, frame_at, bytes_at, IsInUse, IsTaken, IsWritten, KeepsOthers}
+use Rattle.page_pool.specs.Pages.{overwritten}
+use Rattle.page_pool.specs.Frames.{Frames, frame_at, bytes_at, IsTaken, IsWritten}
 use Rattle.page_pool.proofs.PageLemmas.{length-blank_page, get_or-blank_page}
 use Rattle.hart_mem.specs.Paged.{Paged, IsPage, IsSound, KeepsPages, byte_in, flat, frame_of, is_held, page_bytes}
 use Rattle.hart_mem.proofs.Numbers.{loaded_same, loaded_zero}

@@ -1,16 +1,13 @@
 -- Where the parts of a memory stand in its pages: apart from each other, and in order inside each.
-use Rattle.std.proofs.Common.{◌≡◌, ℕ, ◌+◌, ◌-◌, ◌*◌, ◌/◌, ◌%◌, ◌<◌, ◌≤◌, Bool, true, false, not, ◌&&◌, ◌||◌, IsTrue, nat_le, nat_lt, refl, ap, sym, ◌∙◌, arith, inl, inr}
+use Rattle.std.proofs.Common.{◌≡◌, ℕ, ◌+◌, ◌-◌, ◌*◌, ◌/◌, ◌%◌, ◌<◌, ◌≤◌, true, false, IsTrue, nat_lt, ap, sym, ◌∙◌, arith, inl, inr}
 use Rattle.std.proofs.lemmas.Bool.{cases_lt}
 use Rattle.std.proofs.lemmas.Bool.Decides.{nat_tests}
-use Rattle.spec_base.specs.Layout.{range_end, is_lawful}
+use Rattle.spec_base.specs.Layout.{range_end}
 use Rattle.spec_base.specs.declared.layout.Layout.{Layout}
-use Rattle.spec_base.specs.declared.machine.View.{View}
-use Rattle.spec_base.specs.declared.machine.View.TheVariants.{Plain, Program, Stub, Shadow}
-use Rattle.rv_model.specs.Memory.{is_within}
-use Rattle.rv_model.specs.Rights.{in_range, in_text, is_data, in_private, in_link, in_table, in_list, in_copies, in_shared, list_bytes, rights_of}
+use Rattle.rv_model.specs.Rights.{in_shared, list_bytes}
 use Rattle.hart_mem.specs.Access.{IsWidth, one, two, four, eight}
-use Rattle.hart_mem.specs.Places.{stub_place, shadow_place, list_place, copies_place, shared_place, place_of, page_count}
-use Rattle.hart_mem.proofs.Grains.{range_end-pages, table-pages, range_end-above, range_end-below, IsLawful, lawful_is}
+use Rattle.hart_mem.specs.Places.{list_place, copies_place, shared_place}
+use Rattle.hart_mem.proofs.Grains.{range_end-pages, table-pages, range_end-below, IsLawful}
 
 -- an aligned access lies in 8 bytes that begin at a multiple of 8
 pub in_eight : (a n : ℕ) → IsWidth n → a % n ≡ 0 → a % 8 + n ≤ 8

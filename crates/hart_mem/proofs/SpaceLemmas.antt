@@ -1,23 +1,17 @@
 -- What the views see of the pages, and what a change of the pages makes of the memory of all parts.
-use Rattle.std.proofs.Common.{◌≡◌, ℕ, ◌+◌, ◌-◌, ◌*◌, ◌/◌, ◌%◌, ◌<◌, ◌≤◌, Bool, true, false, not, ◌&&◌, ◌||◌, IsTrue, nat_le, nat_lt, List, length, get_or, refl, ap, sym, ◌∙◌, arith, inl, inr}
-use Rattle.std.proofs.lemmas.Bool.{cases_lt, false≢true}
+use Rattle.std.proofs.Common.{◌≡◌, ℕ, ◌+◌, ◌-◌, ◌%◌, ◌<◌, ◌≤◌, IsTrue, refl, ap, sym, ◌∙◌, arith}
 use Rattle.std.proofs.lemmas.Bool.Decides.{nat_tests}
-use Rattle.std.proofs.Math.Path.{fun_ext}
-use Rattle.spec_base.specs.Word.{byte_of}
-use Rattle.spec_base.specs.Layout.{range_end, is_lawful}
+use Rattle.spec_base.specs.Layout.{range_end}
 use Rattle.spec_base.specs.declared.layout.Layout.{Layout}
-use Rattle.spec_base.specs.declared.machine.View.{View}
-use Rattle.spec_base.specs.declared.machine.View.TheVariants.{Plain, Program, Stub, Shadow}
-use Rattle.rv_model.specs.Memory.{Memory, patched, stored, written, all_from}
-use Rattle.rv_model.specs.Rights.{in_range, in_text, is_data, in_private, in_link, in_shared, rights_of}
-use Rattle.rv_model.specs.Space.{Space, sees, stored_in, stub_stored, shadow_stored}
-use Rattle.program_model.specs.Loading.{data_of}
+use Rattle.rv_model.specs.Memory.{Memory, patched}
+use Rattle.rv_model.specs.Rights.{is_data, in_private, in_shared}
+use Rattle.rv_model.specs.Space.{Space}
 use Rattle.hart_mem.specs.Paged.{flat}
-use Rattle.hart_mem.specs.Places.{stub_place, shadow_place, shared_place, copies_place, place_of, page_count}
-use Rattle.hart_mem.specs.Held.{Held, IsOffText, code_or_zeros, part, shadow_words, space_of}
-use Rattle.hart_mem.proofs.Grains.{range_end-pages, table-pages, range_end-above, range_end-below, IsLawful}
-use Rattle.hart_mem.proofs.PartLemmas.{patch_outside, patch_over, part_in, part_out, part_miss, part_hit}
-use Rattle.hart_mem.proofs.PlaceLemmas.{shared_above, shared_below, shared_mod, shared_step, shared_back}
+use Rattle.hart_mem.specs.Places.{stub_place, shadow_place, shared_place}
+use Rattle.hart_mem.specs.Held.{Held, code_or_zeros, part, shadow_words, space_of}
+use Rattle.hart_mem.proofs.Grains.{IsLawful}
+use Rattle.hart_mem.proofs.PartLemmas.{part_miss, part_hit}
+use Rattle.hart_mem.proofs.PlaceLemmas.{shared_above, shared_step, shared_back}
 
 -- the memory of all parts over these pages
 abbrev pub spaced : Held → Memory → Space

@@ -1,21 +1,21 @@
 -- What each view sees and stores stands at its places in the pages.
-use Rattle.std.proofs.Common.{◌≡◌, ℕ, ◌+◌, ◌-◌, ◌*◌, ◌/◌, ◌%◌, ◌<◌, ◌≤◌, Bool, true, false, not, ◌&&◌, ◌||◌, IsTrue, nat_le, nat_lt, List, length, get_or, refl, ap, sym, subst, ◌∙◌, arith, inl, inr}
-use Rattle.std.proofs.lemmas.Bool.{cases_lt, false≢true}
+use Rattle.std.proofs.Common.{◌≡◌, ℕ, ◌+◌, ◌-◌, ◌*◌, ◌/◌, ◌%◌, ◌<◌, ◌≤◌, Bool, true, false, not, ◌&&◌, ◌||◌, IsTrue, List, length, get_or, refl, ap, sym, ◌∙◌, arith}
+use Rattle.std.proofs.lemmas.Bool.{false≢true}
 use Rattle.std.proofs.lemmas.Bool.Decides.{nat_tests}
 use Rattle.std.proofs.Math.Path.{fun_ext}
 use Rattle.spec_base.specs.Word.{byte_of}
-use Rattle.spec_base.specs.Layout.{range_end, is_lawful}
+use Rattle.spec_base.specs.Layout.{range_end}
 use Rattle.spec_base.specs.declared.layout.Layout.{Layout}
 use Rattle.spec_base.specs.declared.machine.View.{View}
 use Rattle.spec_base.specs.declared.machine.View.TheVariants.{Plain, Program, Stub, Shadow}
-use Rattle.rv_model.specs.Memory.{Memory, loaded, patched, stored, written, all_from}
+use Rattle.rv_model.specs.Memory.{Memory, loaded, stored, written, all_from}
 use Rattle.rv_model.specs.Rights.{in_range, in_text, is_data, in_private, in_link, in_shared, rights_of}
-use Rattle.rv_model.specs.Space.{Space, program_byte, text_byte, sees, stored_in, stub_stored, shadow_stored}
+use Rattle.rv_model.specs.Space.{program_byte, text_byte, sees, stored_in, stub_stored, shadow_stored}
 use Rattle.program_model.specs.Loading.{data_of}
-use Rattle.hart_mem.specs.Places.{stub_place, shadow_place, shared_place, list_place, copies_place, stub_spot, shadow_spot, place_of, page_count}
+use Rattle.hart_mem.specs.Places.{stub_place, shadow_place, shared_place, copies_place, stub_spot, shadow_spot, place_of, page_count}
 use Rattle.hart_mem.specs.Held.{Held, IsOffText, part}
 use Rattle.hart_mem.proofs.Numbers.{loaded_same}
-use Rattle.hart_mem.proofs.Grains.{range_end-pages, table-pages, range_end-above, range_end-below, IsLawful}
+use Rattle.hart_mem.proofs.Grains.{range_end-pages, range_end-below, IsLawful}
 use Rattle.hart_mem.proofs.PartLemmas.{all_from-at, all_from-inside, patch_outside, patch_over, part_in, part_miss, part_out}
 use Rattle.hart_mem.proofs.PlaceLemmas.{shared_above, shared_below, shared_mod, shared_step}
 use Rattle.hart_mem.proofs.SpaceLemmas.{spaced, data_low, private_high, private_end, program_patched, stub_page_patched, shadow_page_patched, shared_patched}

@@ -1,7 +1,7 @@
 -- A memory in pages of 4,096 bytes: each page has a frame of a pool, or none and reads as zero (this project's own).
-use Rattle.std.specs.Prelude.{◌≡◌, ℕ, ◌+◌, ◌-◌, ◌/◌, ◌%◌, ◌<◌, ◌≤◌, List, [], length, count_by, Bool, true, IsTrue, Option, Some, None, is_some, slice_index, slice_index_or}
+use Rattle.std.specs.Prelude.{◌≡◌, ℕ, ◌+◌, ◌-◌, ◌/◌, ◌%◌, ◌<◌, ◌≤◌, List, [], length, count_by, Bool, IsTrue, Option, Some, None, is_some, slice_index, slice_index_or}
 use Rattle.rv_model.specs.Memory.{Memory}
-use Rattle.page_pool.specs.Frames.{Frames, frame_at, bytes_at, no_frames, IsInUse}
+use Rattle.page_pool.specs.Frames.{Frames, frame_at, bytes_at, no_frames}
 
 -- the number of each page's frame, and the pool
 pub record Paged : Type 0 where

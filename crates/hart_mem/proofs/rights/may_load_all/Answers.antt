@@ -1,4 +1,4 @@
-use Rattle.std.proofs.Common.{◌≡◌, ◌+◌, ◌-◌, ◌&&◌, ◌∙◌, sym, ap, Bool}
+use Rattle.std.proofs.Common.{◌+◌, ◌-◌, ◌&&◌, ◌∙◌, sym, ap, Bool}
 use Rattle.rv_model.specs.Rights.{rights_of}
 use Rattle.hart_mem.proofs.Grains.{loads_all}
 use Rattle.hart_mem.proofs.rights.may_load_all.Goals as goal

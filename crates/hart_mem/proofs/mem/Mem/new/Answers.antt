@@ -1,4 +1,4 @@
-use Rattle.std.proofs.Common.{◌≡◌, ◌≤◌, ℕ, ap, arith}
+use Rattle.std.proofs.Common.{◌≡◌, ◌≤◌, ap, arith}
 use Rattle.page_pool.specs.Frames.{Frames}
 use Rattle.hart_mem.specs.Held.{Held, spare_of}
 use Rattle.hart_mem.proofs.MemLemmas.{empty_spaced, flat_new}

@@ -1,5 +1,5 @@
-use Rattle.std.proofs.Common.{◌≡◌, ◌<◌, ◌≤◌, ◌+◌, ◌/◌, ◌%◌, ◌∙◌, ℕ, IsTrue, length, ap, sym}
-use Rattle.rv_model.specs.Memory.{all_from, loaded}
+use Rattle.std.proofs.Common.{◌∙◌, ℕ, IsTrue, ap}
+use Rattle.rv_model.specs.Memory.{loaded}
 use Rattle.rv_model.specs.Rights.{rights_of}
 use Rattle.hart_mem.specs.Paged.{flat}
 use Rattle.hart_mem.specs.contracts.mem.Mem.{the_view}

@@ -1,7 +1,7 @@
-use Rattle.std.proofs.Common.{◌≡◌, ◌≤◌, ◌/◌, ◌%◌, ◌+◌, ◌∙◌, ℕ, List, length, take, ap, sym, arith, not}
+use Rattle.std.proofs.Common.{◌≤◌, ◌/◌, ◌∙◌, ℕ, List, length, take, ap, sym, arith}
 use Rattle.std.proofs.lemmas.List.{length-take-le}
 use Rattle.rv_model.specs.Memory.{Memory, stored, written}
-use Rattle.hart_mem.specs.Held.{lacks_frame, spare_of}
+use Rattle.hart_mem.specs.Held.{spare_of}
 use Rattle.hart_mem.specs.Paged.{flat, is_held}
 use Rattle.hart_mem.specs.contracts.mem.Mem.{the_view}
 use Rattle.hart_mem.proofs.PlaceLemmas.{width_few}

@@ -1,5 +1,4 @@
-use Rattle.std.proofs.Common.{◌≡◌, ◌<◌, ◌/◌, ◌-◌, ◌%◌, ◌*◌, ◌∙◌, ℕ, length, sym, ap, arith, get_or}
-use Rattle.std.proofs.lemmas.Bool.Decides.{nat_tests}
+use Rattle.std.proofs.Common.{◌-◌, ◌%◌, ◌∙◌, ℕ, sym, ap}
 use Rattle.std.proofs.lemmas.List.{get_or_read}
 use Rattle.spec_base.specs.Word.{byte_of}
 use Rattle.hart_mem.specs.contracts.mem.Mem.{the_view}

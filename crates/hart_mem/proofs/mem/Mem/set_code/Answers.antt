@@ -1,4 +1,4 @@
-use Rattle.std.proofs.Common.{◌≡◌, ◌≤◌, length, vec_len, arith}
+use Rattle.std.proofs.Common.{◌≤◌, length, arith}
 use Rattle.hart_mem.specs.Held.{space_of}
 use Rattle.hart_mem.specs.contracts.mem.Mem.{the_view}
 use Rattle.hart_mem.proofs.MemLemmas.{coded_space}

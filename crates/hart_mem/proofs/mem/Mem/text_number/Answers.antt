@@ -1,4 +1,4 @@
-use Rattle.std.proofs.Common.{◌≡◌, ◌+◌, ◌-◌, ◌*◌, ◌^◌, ◌<◌, ℕ, ◌∙◌, ap, arith}
+use Rattle.std.proofs.Common.{◌≡◌, ◌+◌, ◌-◌, ◌*◌, ℕ, ◌∙◌, ap, arith}
 use Rattle.spec_base.specs.declared.machine.View.TheVariants.{Shadow}
 use Rattle.rv_model.specs.Memory.{Memory, loaded}
 use Rattle.rv_model.specs.Space.{sees}

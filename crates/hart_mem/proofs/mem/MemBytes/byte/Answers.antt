@@ -1,4 +1,4 @@
-use Rattle.std.proofs.Common.{◌≡◌, ◌∙◌, ℕ, ap, sym, Option, Some}
+use Rattle.std.proofs.Common.{◌∙◌, ℕ, ap, sym, Option, Some}
 use Rattle.hart_mem.specs.contracts.mem.Mem.{the_view}
 use Rattle.hart_mem.proofs.MemLemmas.{byte_none, byte_some, loaded_one}
 use Rattle.hart_mem.proofs.mem.MemBytes.byte.Goals as goal

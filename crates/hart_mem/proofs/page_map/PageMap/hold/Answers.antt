@@ -1,4 +1,4 @@
-use Rattle.std.proofs.Common.{arith, rules, ◌≡◌, ◌<◌, ◌∙◌, length, false, sym, ap, Option, None, is_some}
+use Rattle.std.proofs.Common.{◌≡◌, ◌<◌, ◌∙◌, length, false, sym, ap, None, is_some}
 use Rattle.std.proofs.lemmas.List.{get_or_read}
 use Rattle.page_pool.specs.Frames.{IsTaken}
 use Rattle.hart_mem.specs.Paged.{is_held}

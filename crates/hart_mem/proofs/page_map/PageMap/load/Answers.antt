@@ -1,4 +1,4 @@
-use Rattle.std.proofs.Common.{arith, ◌≡◌, ◌<◌, ◌∙◌, ap, sym, rules, ◌/◌, Some, None}
+use Rattle.std.proofs.Common.{◌≡◌, ◌∙◌, sym, rules, ◌/◌, Some, None}
 use Rattle.std.proofs.lemmas.List.{get_or_read}
 use Rattle.hart_mem.specs.Paged.{frame_of}
 use Rattle.hart_mem.specs.contracts.page_map.PageMap.{the_view}
