@@ -10,6 +10,8 @@ use std::test::Fail;
 
 const TEXT: u64 = 0x1_0000;
 
+const ILLEGAL: Event = Event::Trap(Trap::Illegal);
+
 fn x(number: u32) -> Reg {
     Reg::from_low_bits(number)
 }
@@ -109,8 +111,8 @@ fn jumps_and_traps(rt: HostRuntime) -> Result<(), Fail> {
         (0xFE73_3C23, Event::NoMemory, 0x1_0040, 0),
     ];
     let mut text = Vec::new(rt.alloc());
-    for (word, _, _, _) in rows {
-        text.push(word)?;
+    for (word, _, _, _) in rows.iter() {
+        text.push(*word)?;
     }
     let mut mem = memory_of(rt.alloc(), text)?;
     let mut pc = TEXT;
@@ -167,8 +169,8 @@ fn loads_what_was_stored(rt: HostRuntime) -> Result<(), Fail> {
         (0x0183_3283, 0xFEDC_BA98),
     ];
     let mut text = Vec::new(rt.alloc());
-    for (word, _) in rows {
-        text.push(word)?;
+    for (word, _) in rows.iter() {
+        text.push(*word)?;
     }
     let mut mem = memory_of(rt.alloc(), text)?;
     mem.reserve(1)?;
@@ -213,9 +215,6 @@ fn memory_of_gates(alloc: Global) -> Result<Mem, NoMemory> {
 #[test]
 fn meets_each_gate_word_in_each_view(rt: HostRuntime) -> Result<(), Fail> {
     let mut mem = memory_of_gates(rt.alloc())?;
-    let illegal = Event::Trap(Trap::Illegal);
-    let key = Event::Key(x(5));
-    let call = Event::Call(false);
     let views = [
         (View::Plain, TEXT),
         (View::Program, TEXT),
@@ -223,18 +222,18 @@ fn meets_each_gate_word_in_each_view(rt: HostRuntime) -> Result<(), Fail> {
         (View::Shadow, 0x4000_0000),
     ];
     let rows = [
-        [illegal, Event::Gate, illegal, illegal],
-        [illegal, illegal, Event::Leave, illegal],
-        [illegal, illegal, Event::Done, illegal],
-        [illegal, illegal, key, key],
-        [illegal, illegal, Event::Stop, illegal],
-        [illegal, illegal, Event::Restart, illegal],
-        [illegal, illegal, call, call],
-        [illegal, illegal, illegal, Event::Call(true)],
-        [illegal, illegal, illegal, Event::Park(Park::Exit)],
-        [illegal, illegal, illegal, Event::Park(Park::Store)],
-        [illegal, illegal, illegal, illegal],
-        [Event::Ecall, illegal, illegal, illegal],
+        [ILLEGAL, Event::Gate, ILLEGAL, ILLEGAL],
+        [ILLEGAL, ILLEGAL, Event::Leave, ILLEGAL],
+        [ILLEGAL, ILLEGAL, Event::Done, ILLEGAL],
+        [ILLEGAL, ILLEGAL, Event::Key(x(5)), Event::Key(x(5))],
+        [ILLEGAL, ILLEGAL, Event::Stop, ILLEGAL],
+        [ILLEGAL, ILLEGAL, Event::Restart, ILLEGAL],
+        [ILLEGAL, ILLEGAL, Event::Call(false), Event::Call(false)],
+        [ILLEGAL, ILLEGAL, ILLEGAL, Event::Call(true)],
+        [ILLEGAL, ILLEGAL, ILLEGAL, Event::Park(Park::Exit)],
+        [ILLEGAL, ILLEGAL, ILLEGAL, Event::Park(Park::Store)],
+        [ILLEGAL, ILLEGAL, ILLEGAL, ILLEGAL],
+        [Event::Ecall, ILLEGAL, ILLEGAL, ILLEGAL],
     ];
     let mut offset: u64 = 0;
     for events in rows {
