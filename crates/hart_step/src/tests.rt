@@ -191,6 +191,27 @@ const GATES: [u32; 12] = [
     0x000B, 0x100B, 0x228B, 0x328B, 0x400B, 0x500B, 0x600B, 0x608B, 0x708B, 0x728B, 0x700B, 0x0073,
 ];
 
+// Where the code of a view starts.
+fn start_of(view: View) -> u64 {
+    match view {
+        View::Plain | View::Program => TEXT,
+        View::Stub => STUB_START,
+        View::Shadow => 0x4000_0000,
+    }
+}
+
+// The pc, the view and the site that a step leaves behind.
+fn place_after(event: Event, pc: u64, view: View) -> (u64, View, u64) {
+    match event {
+        Event::Gate => (STUB_START, View::Stub, pc),
+        Event::Leave => (4, View::Program, 0),
+        Event::Done | Event::Stop | Event::Restart | Event::Park(_) => {
+            (pc.wrapping_add(4), view, 0)
+        }
+        _ => (pc, view, 0),
+    }
+}
+
 // A memory with these words at the start of each view's code.
 fn memory_of_gates(alloc: Global) -> Result<Mem, NoMemory> {
     let layout = Layout {
@@ -215,41 +236,32 @@ fn memory_of_gates(alloc: Global) -> Result<Mem, NoMemory> {
 #[test]
 fn meets_each_gate_word_in_each_view(rt: HostRuntime) -> Result<(), Fail> {
     let mut mem = memory_of_gates(rt.alloc())?;
-    let views = [
-        (View::Plain, TEXT),
-        (View::Program, TEXT),
-        (View::Stub, STUB_START),
-        (View::Shadow, 0x4000_0000),
-    ];
+    // What a step tells at each word, in the order of the views.
+    let views = [View::Plain, View::Program, View::Stub, View::Shadow];
     let rows = [
-        [ILLEGAL, Event::Gate, ILLEGAL, ILLEGAL],
-        [ILLEGAL, ILLEGAL, Event::Leave, ILLEGAL],
-        [ILLEGAL, ILLEGAL, Event::Done, ILLEGAL],
-        [ILLEGAL, ILLEGAL, Event::Key(x(5)), Event::Key(x(5))],
-        [ILLEGAL, ILLEGAL, Event::Stop, ILLEGAL],
-        [ILLEGAL, ILLEGAL, Event::Restart, ILLEGAL],
-        [ILLEGAL, ILLEGAL, Event::Call(false), Event::Call(false)],
-        [ILLEGAL, ILLEGAL, ILLEGAL, Event::Call(true)],
-        [ILLEGAL, ILLEGAL, ILLEGAL, Event::Park(Park::Exit)],
-        [ILLEGAL, ILLEGAL, ILLEGAL, Event::Park(Park::Store)],
-        [ILLEGAL, ILLEGAL, ILLEGAL, ILLEGAL],
-        [Event::Ecall, ILLEGAL, ILLEGAL, ILLEGAL],
+        (ILLEGAL, Event::Gate, ILLEGAL, ILLEGAL),
+        (ILLEGAL, ILLEGAL, Event::Leave, ILLEGAL),
+        (ILLEGAL, ILLEGAL, Event::Done, ILLEGAL),
+        (ILLEGAL, ILLEGAL, Event::Key(x(5)), Event::Key(x(5))),
+        (ILLEGAL, ILLEGAL, Event::Stop, ILLEGAL),
+        (ILLEGAL, ILLEGAL, Event::Restart, ILLEGAL),
+        (ILLEGAL, ILLEGAL, Event::Call(false), Event::Call(false)),
+        (ILLEGAL, ILLEGAL, ILLEGAL, Event::Call(true)),
+        (ILLEGAL, ILLEGAL, ILLEGAL, Event::Park(Park::Exit)),
+        (ILLEGAL, ILLEGAL, ILLEGAL, Event::Park(Park::Store)),
+        (ILLEGAL, ILLEGAL, ILLEGAL, ILLEGAL),
+        (Event::Ecall, ILLEGAL, ILLEGAL, ILLEGAL),
     ];
     let mut offset: u64 = 0;
-    for events in rows {
-        for ((view, start), event) in views.into_iter().zip(events) {
-            let pc = start.wrapping_add(offset);
+    for (plain, program, stub, shadow) in rows {
+        for (view, event) in views.into_iter().zip([plain, program, stub, shadow]) {
+            let pc = start_of(view).wrapping_add(offset);
             let mut hart = Hart::new(pc, view);
             assert_eq!(rt; step(&mut hart, &mut mem), event, "{view:?} {pc:#x}");
-            let after = match event {
-                Event::Gate => (STUB_START, View::Stub, pc),
-                Event::Leave => (4, View::Program, 0),
-                Event::Done | Event::Stop | Event::Restart | Event::Park(_) => {
-                    (pc.wrapping_add(4), view, 0)
-                }
-                _ => (pc, view, 0),
-            };
-            assert_eq!(rt; (hart.pc(), hart.view(), hart.site()), after);
+            assert_eq!(rt;
+                (hart.pc(), hart.view(), hart.site()),
+                place_after(event, pc, view)
+            );
         }
         offset = offset.wrapping_add(4);
     }
