@@ -98,9 +98,8 @@ fn quotient(x: u64, y: u64) -> u64
     if y == 0 {
         return u64::MAX;
     }
-    x.cast_signed()
-        .wrapping_div(y.cast_signed())
-        .cast_unsigned()
+    let quotient = x.cast_signed().wrapping_div(y.cast_signed());
+    quotient.cast_unsigned()
 }
 
 /// The remainder of two signed words, whose sign is the dividend's.
@@ -110,9 +109,8 @@ fn remainder(x: u64, y: u64) -> u64
     if y == 0 {
         return x;
     }
-    x.cast_signed()
-        .wrapping_rem(y.cast_signed())
-        .cast_unsigned()
+    let remainder = x.cast_signed().wrapping_rem(y.cast_signed());
+    remainder.cast_unsigned()
 }
 
 /// The result of an operation on the low words of two registers.

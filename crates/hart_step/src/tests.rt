@@ -10,6 +10,8 @@ use std::test::Fail;
 
 const TEXT: u64 = 0x1_0000;
 
+const ILLEGAL: Event = Event::Trap(Trap::Illegal);
+
 fn x(number: u32) -> Reg {
     Reg::from_low_bits(number)
 }
@@ -109,8 +111,8 @@ fn jumps_and_traps(rt: HostRuntime) -> Result<(), Fail> {
         (0xFE73_3C23, Event::NoMemory, 0x1_0040, 0),
     ];
     let mut text = Vec::new(rt.alloc());
-    for (word, _, _, _) in rows {
-        text.push(word)?;
+    for (word, _, _, _) in rows.iter() {
+        text.push(*word)?;
     }
     let mut mem = memory_of(rt.alloc(), text)?;
     let mut pc = TEXT;
@@ -167,8 +169,8 @@ fn loads_what_was_stored(rt: HostRuntime) -> Result<(), Fail> {
         (0x0183_3283, 0xFEDC_BA98),
     ];
     let mut text = Vec::new(rt.alloc());
-    for (word, _) in rows {
-        text.push(word)?;
+    for (word, _) in rows.iter() {
+        text.push(*word)?;
     }
     let mut mem = memory_of(rt.alloc(), text)?;
     mem.reserve(1)?;
@@ -188,6 +190,27 @@ fn loads_what_was_stored(rt: HostRuntime) -> Result<(), Fail> {
 const GATES: [u32; 12] = [
     0x000B, 0x100B, 0x228B, 0x328B, 0x400B, 0x500B, 0x600B, 0x608B, 0x708B, 0x728B, 0x700B, 0x0073,
 ];
+
+// Where the code of a view starts.
+fn start_of(view: View) -> u64 {
+    match view {
+        View::Plain | View::Program => TEXT,
+        View::Stub => STUB_START,
+        View::Shadow => 0x4000_0000,
+    }
+}
+
+// The pc, the view and the site that a step leaves behind.
+fn place_after(event: Event, pc: u64, view: View) -> (u64, View, u64) {
+    match event {
+        Event::Gate => (STUB_START, View::Stub, pc),
+        Event::Leave => (4, View::Program, 0),
+        Event::Done | Event::Stop | Event::Restart | Event::Park(_) => {
+            (pc.wrapping_add(4), view, 0)
+        }
+        _ => (pc, view, 0),
+    }
+}
 
 // A memory with these words at the start of each view's code.
 fn memory_of_gates(alloc: Global) -> Result<Mem, NoMemory> {
@@ -213,44 +236,32 @@ fn memory_of_gates(alloc: Global) -> Result<Mem, NoMemory> {
 #[test]
 fn meets_each_gate_word_in_each_view(rt: HostRuntime) -> Result<(), Fail> {
     let mut mem = memory_of_gates(rt.alloc())?;
-    let illegal = Event::Trap(Trap::Illegal);
-    let key = Event::Key(x(5));
-    let call = Event::Call(false);
-    let views = [
-        (View::Plain, TEXT),
-        (View::Program, TEXT),
-        (View::Stub, STUB_START),
-        (View::Shadow, 0x4000_0000),
-    ];
+    // What a step tells at each word, in the order of the views.
+    let views = [View::Plain, View::Program, View::Stub, View::Shadow];
     let rows = [
-        [illegal, Event::Gate, illegal, illegal],
-        [illegal, illegal, Event::Leave, illegal],
-        [illegal, illegal, Event::Done, illegal],
-        [illegal, illegal, key, key],
-        [illegal, illegal, Event::Stop, illegal],
-        [illegal, illegal, Event::Restart, illegal],
-        [illegal, illegal, call, call],
-        [illegal, illegal, illegal, Event::Call(true)],
-        [illegal, illegal, illegal, Event::Park(Park::Exit)],
-        [illegal, illegal, illegal, Event::Park(Park::Store)],
-        [illegal, illegal, illegal, illegal],
-        [Event::Ecall, illegal, illegal, illegal],
+        (ILLEGAL, Event::Gate, ILLEGAL, ILLEGAL),
+        (ILLEGAL, ILLEGAL, Event::Leave, ILLEGAL),
+        (ILLEGAL, ILLEGAL, Event::Done, ILLEGAL),
+        (ILLEGAL, ILLEGAL, Event::Key(x(5)), Event::Key(x(5))),
+        (ILLEGAL, ILLEGAL, Event::Stop, ILLEGAL),
+        (ILLEGAL, ILLEGAL, Event::Restart, ILLEGAL),
+        (ILLEGAL, ILLEGAL, Event::Call(false), Event::Call(false)),
+        (ILLEGAL, ILLEGAL, ILLEGAL, Event::Call(true)),
+        (ILLEGAL, ILLEGAL, ILLEGAL, Event::Park(Park::Exit)),
+        (ILLEGAL, ILLEGAL, ILLEGAL, Event::Park(Park::Store)),
+        (ILLEGAL, ILLEGAL, ILLEGAL, ILLEGAL),
+        (Event::Ecall, ILLEGAL, ILLEGAL, ILLEGAL),
     ];
     let mut offset: u64 = 0;
-    for events in rows {
-        for ((view, start), event) in views.into_iter().zip(events) {
-            let pc = start.wrapping_add(offset);
+    for (plain, program, stub, shadow) in rows {
+        for (view, event) in views.into_iter().zip([plain, program, stub, shadow]) {
+            let pc = start_of(view).wrapping_add(offset);
             let mut hart = Hart::new(pc, view);
             assert_eq!(rt; step(&mut hart, &mut mem), event, "{view:?} {pc:#x}");
-            let after = match event {
-                Event::Gate => (STUB_START, View::Stub, pc),
-                Event::Leave => (4, View::Program, 0),
-                Event::Done | Event::Stop | Event::Restart | Event::Park(_) => {
-                    (pc.wrapping_add(4), view, 0)
-                }
-                _ => (pc, view, 0),
-            };
-            assert_eq!(rt; (hart.pc(), hart.view(), hart.site()), after);
+            assert_eq!(rt;
+                (hart.pc(), hart.view(), hart.site()),
+                place_after(event, pc, view)
+            );
         }
         offset = offset.wrapping_add(4);
     }
