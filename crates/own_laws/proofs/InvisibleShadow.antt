@@ -1,0 +1,199 @@
+-- A move of the shadow leaves the own side, puts nothing, and hears from the outside only that a look failed.
+use Rattle.std.proofs.Common.{◌≡◌, ℕ, Bool, true, false, List, [], ◌∷◌, Option, Some, None, refl, ap, sym, ◌∙◌}
+use Rattle.spec_base.specs.declared.layout.Layout.{Layout}
+use Rattle.spec_base.specs.declared.machine.View.TheVariants.{Shadow}
+use Rattle.spec_base.specs.declared.note.ShadowState.{ShadowState}
+use Rattle.spec_base.specs.declared.note.ShadowState.TheVariants.{Never, Running, Stopped, Parked}
+use Rattle.spec_base.specs.declared.note.Move.{Move}
+use Rattle.spec_base.specs.declared.note.Move.TheVariants.{O, S, T, D}
+use Rattle.spec_base.specs.declared.park.Park.TheVariants as park
+use Rattle.spec_base.specs.declared.spot.ReadSpot.{ReadSpot}
+use Rattle.spec_base.specs.declared.spot.BlockSpot.{BlockSpot}
+use Rattle.rv_decode.specs.declared.instr.Instr.{Instr}
+use Rattle.rv_decode.specs.declared.instr.Instr.TheVariants.{Hkey, Hcall, Hpark}
+use Rattle.rv_model.specs.Rights.{in_private, shadow_rights}
+use Rattle.rv_model.specs.Effect.{Effect, Next, Stored, Trapped, Called, Gated, effect}
+use Rattle.rv_model.specs.Space.{shadow_sees}
+use Rattle.program_model.specs.Calls.{CallPlan, Set, Look, Read, Write, Exit, opened}
+use Rattle.program_model.specs.PlainRun.{size_in}
+use Rattle.program_model.specs.Cache.{Cache, hinted, all_hinted, hint_if, is_idle_hint, blocks_of}
+use Rattle.run_model.specs.Run.{World, Run, RunEnd, Answer, Usual, Took, Failed, Lost, rewritten_words}
+use Rattle.run_model.specs.ShadowMoves.{shadow_in, shadow_at_word, shadow_after, shadow_gate, shadow_stored, assumed, look_assumed, assumed_with, hint_given, fill, fill_if, is_filled, parked, arrived_if, word_counted, fetch_shadow, is_running, is_arrival, shadow_plan}
+use Rattle.run_model.specs.Moves.{step, step_unless, moved, begun, shadow_while}
+use Rattle.run_model.specs.OwnLaws.{IsShadowMove, has_failed, IsInvisible, ShadowIsInvisible}
+use Rattle.own_laws.proofs.Side.{Side, side_of, part_of, Kept, kept_of}
+use Rattle.std.proofs.Common.{◌&&◌}
+
+-- the new run keeps what the old one has of the program
+abbrev pub Keeps : Run → Run → Type 0
+Keeps old new = kept_of new ≡ kept_of old
+
+-- ---- hints leave the demanded block
+
+hint_if-demanded : (b : Bool) (c : Cache) (spot : BlockSpot) → (hint_if b c spot).demanded ≡ c.demanded
+hint_if-demanded true c spot = refl
+hint_if-demanded false c spot = refl
+
+all_hinted-demanded : (depth : ℕ) (c : Cache) (spots : List BlockSpot) → (all_hinted depth c spots).demanded ≡ c.demanded
+all_hinted-demanded depth c [] = refl
+all_hinted-demanded depth c (spot ∷ spots) =
+    all_hinted-demanded depth (hinted depth c spot) spots ∙ hint_if-demanded (is_idle_hint depth c spot) c spot
+
+hint_given-keeps : (unhinted : Bool) (spot : ReadSpot) (r : Run) → Keeps r (hint_given unhinted spot r)
+hint_given-keeps true spot r = refl
+hint_given-keeps false spot r = ap (λ d. record (kept_of r) { demanded = d }) (all_hinted-demanded 64 r.cache (blocks_of spot))
+
+-- ---- each part of a word of the shadow keeps the own side
+
+fill_if-keeps : (b : Bool) (w : World) (spot : ReadSpot) (a : ℕ) (r : Run) → Keeps r (fill_if b w spot a r)
+fill_if-keeps true w spot a r = refl
+fill_if-keeps false w spot a r = refl
+
+look_assumed-keeps : (w : World) (x : Answer) (r : Run) (name : List ℕ) → Keeps r (look_assumed w x r name)
+look_assumed-keeps w Failed r name = refl
+look_assumed-keeps w Usual r name = refl
+look_assumed-keeps w (Took k) r name = refl
+look_assumed-keeps w Lost r name = refl
+
+assumed-keeps : (w : World) (x : Answer) (r : Run) (unhinted : Bool) (plan : CallPlan) → Keeps r (assumed w x r unhinted plan)
+assumed-keeps w x r unhinted (Set f answer) = refl
+assumed-keeps w x r unhinted (Look name) = look_assumed-keeps w x r name
+assumed-keeps w x r unhinted (Read d spot a) =
+    let hint : Run = hint_given unhinted spot r in
+    fill_if-keeps (is_filled w hint spot a spot.count) w spot a hint ∙ hint_given-keeps unhinted spot r
+assumed-keeps w x r unhinted (Write to_out a n) = refl
+assumed-keeps w x r unhinted (Exit code) = refl
+
+gate-keeps : (w : World) (x : Answer) (r : Run) (i : Instr) → Keeps r (shadow_gate w x r i)
+gate-keeps w x r (Hkey rd) = refl
+gate-keeps w x r (Hcall unhinted) = assumed-keeps w x r unhinted (shadow_plan w r)
+gate-keeps w x r (Hpark cause) = refl
+gate-keeps w x r _ = refl
+
+stored-keeps : (b : Bool) (r : Run) (a width v : ℕ) → Keeps r (shadow_stored b r a width v)
+stored-keeps true r a width v = refl
+stored-keeps false r a width v = refl
+
+after-keeps : (w : World) (x : Answer) (r : Run) (e : Effect) → Keeps r (shadow_after w x r e)
+after-keeps w x r (Next rs pc) = refl
+after-keeps w x r (Stored a width v) = stored-keeps (in_private a) r a width v
+after-keeps w x r (Trapped cause) = refl
+after-keeps w x r (Gated i) = gate-keeps w x r i
+after-keeps w x r Called = refl
+
+arrived_if-keeps : (b : Bool) (r : Run) → Keeps r (arrived_if b r)
+arrived_if-keeps true r = refl
+arrived_if-keeps false r = refl
+
+-- what the word at the shadow's pc does
+abbrev shadow_effect : World → Run → Instr → Effect
+shadow_effect w r i =
+    effect Shadow (shadow_rights w.image.layout) (shadow_sees w.image.layout (rewritten_words w) r.own.memory r.shared r.shadow_page) r.shadow.registers r.shadow.pc i
+
+word-keeps : (w : World) (x : Answer) (r : Run) (o : Option Instr) → Keeps r (shadow_at_word w x r o)
+word-keeps w x r None = refl
+word-keeps w x r (Some i) =
+    let next : Run = shadow_after w x r (shadow_effect w r i) in
+    arrived_if-keeps (is_running next.shadow.state && is_arrival w.image.layout next.shadow.pc) next ∙ after-keeps w x r (shadow_effect w r i)
+
+in-keeps : (s : ShadowState) (w : World) (x : Answer) (r : Run) → Keeps r (shadow_in s w x r)
+in-keeps Running w x r = word-keeps w x r (fetch_shadow w r.shadow.pc)
+in-keeps Never w x r = refl
+in-keeps Stopped w x r = refl
+in-keeps (Parked cause) w x r = refl
+
+while-keeps : (b : Bool) (w : World) (x : Answer) (r : Run) → Keeps r (shadow_while b w x r)
+while-keeps true w x r = in-keeps r.shadow.state w x r
+while-keeps false w x r = refl
+
+moved-keeps : (w : World) (x : Answer) (r : Run) (m : Move) → IsShadowMove m → Keeps r (moved w x r m)
+moved-keeps w x r S h = in-keeps r.shadow.state w x r
+moved-keeps w x r T h = while-keeps r.stalled w x r
+moved-keeps w x r O h = elim h [ ]
+moved-keeps w x r D h = elim h [ ]
+
+-- what a run has of the program once a move begins: nothing is put yet
+abbrev pub kept_begun : Run → Kept
+kept_begun r = record (kept_of r) { text = [] }
+
+-- a move of the shadow keeps the own side and the demanded block, and puts nothing
+pub shadow_move-keeps : (w : World) (r : Run) (m : Move) (x : Answer) → IsShadowMove m → kept_of (step w r (m, x)) ≡ kept_begun r
+shadow_move-keeps w r m x h = by_end r.end
+  where
+    by_end : (e : Option RunEnd) → kept_of (step_unless e w r (m, x)) ≡ kept_begun r
+    by_end (Some e) = refl
+    by_end None = moved-keeps w x (begun r) m h
+
+-- ---- what the shadow hears of the outside
+
+-- a look of the shadow hears whether it failed
+abbrev look_heard : Bool → World → Run → List ℕ → Run
+look_heard true w r name = parked r park.Store
+look_heard false w r name = assumed_with r (opened r.shadow.files name (size_in w.files name))
+
+look_assumed-heard : (w : World) (x : Answer) (r : Run) (name : List ℕ) → look_assumed w x r name ≡ look_heard (has_failed x) w r name
+look_assumed-heard w Failed r name = refl
+look_assumed-heard w Usual r name = refl
+look_assumed-heard w (Took k) r name = refl
+look_assumed-heard w Lost r name = refl
+
+-- two answers that agree in being a failure
+module _ (w : World) (x y : Answer) (same : has_failed x ≡ has_failed y) where
+  assumed-alike : (r : Run) (unhinted : Bool) (plan : CallPlan) → assumed w x r unhinted plan ≡ assumed w y r unhinted plan
+  assumed-alike r unhinted (Look name) = look_assumed-heard w x r name ∙ ap (λ b. look_heard b w r name) same ∙ sym (look_assumed-heard w y r name)
+  assumed-alike r unhinted (Set f answer) = refl
+  assumed-alike r unhinted (Read d spot a) = refl
+  assumed-alike r unhinted (Write to_out a n) = refl
+  assumed-alike r unhinted (Exit code) = refl
+
+  gate-alike : (r : Run) (i : Instr) → shadow_gate w x r i ≡ shadow_gate w y r i
+  gate-alike r (Hcall unhinted) = assumed-alike r unhinted (shadow_plan w r)
+  gate-alike r (Hkey rd) = refl
+  gate-alike r (Hpark cause) = refl
+  gate-alike r _ = refl
+
+  after-alike : (r : Run) (e : Effect) → shadow_after w x r e ≡ shadow_after w y r e
+  after-alike r (Gated i) = gate-alike r i
+  after-alike r (Next rs pc) = refl
+  after-alike r (Stored a width v) = refl
+  after-alike r (Trapped cause) = refl
+  after-alike r Called = refl
+
+  word-alike : (r : Run) (o : Option Instr) → shadow_at_word w x r o ≡ shadow_at_word w y r o
+  word-alike r None = refl
+  word-alike r (Some i) =
+      ap (λ (next : Run). arrived_if (is_running next.shadow.state && is_arrival w.image.layout next.shadow.pc) next) (after-alike r (shadow_effect w r i))
+
+  in-alike : (s : ShadowState) (r : Run) → shadow_in s w x r ≡ shadow_in s w y r
+  in-alike Running r = ap word_counted (word-alike r (fetch_shadow w r.shadow.pc))
+  in-alike Never r = refl
+  in-alike Stopped r = refl
+  in-alike (Parked cause) r = refl
+
+  while-alike : (b : Bool) (r : Run) → shadow_while b w x r ≡ shadow_while b w y r
+  while-alike true r = in-alike r.shadow.state r
+  while-alike false r = refl
+
+  moved-alike : (m : Move) (r : Run) → IsShadowMove m → moved w x r m ≡ moved w y r m
+  moved-alike S r h = in-alike r.shadow.state r
+  moved-alike T r h = while-alike r.stalled r
+  moved-alike O r h = elim h [ ]
+  moved-alike D r h = elim h [ ]
+
+  step-alike : (r : Run) (m : Move) → IsShadowMove m → step w r (m, x) ≡ step w r (m, y)
+  step-alike r m h = by_end r.end
+    where
+      by_end : (e : Option RunEnd) → step_unless e w r (m, x) ≡ step_unless e w r (m, y)
+      by_end (Some e) = refl
+      by_end None = moved-alike m (begun r) h
+
+-- ---- the law
+
+pub shadow_is_invisible : ShadowIsInvisible
+shadow_is_invisible w r m x h =
+    let kept : kept_of (step w r (m, x)) ≡ kept_begun r = shadow_move-keeps w r m x h in
+    record {
+      leaves = ap (λ (k : Kept). part_of k.side) kept;
+      puts_nothing = ap (λ (k : Kept). k.text) kept;
+      hears_failure_alone = λ y same. step-alike w x y same r m h;
+    }
