@@ -1,2 +1,5 @@
 pub mod Side
 pub mod InvisibleShadow
+pub mod Results
+pub mod Alike
+pub mod Bounds
