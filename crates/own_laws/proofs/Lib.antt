@@ -3,3 +3,4 @@ pub mod InvisibleShadow
 pub mod Results
 pub mod Alike
 pub mod Bounds
+pub mod StubWords
