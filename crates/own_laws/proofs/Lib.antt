@@ -4,3 +4,5 @@ pub mod Results
 pub mod Alike
 pub mod Bounds
 pub mod StubWords
+pub mod Patches
+pub mod StubRows

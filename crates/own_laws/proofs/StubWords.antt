@@ -129,7 +129,7 @@ stub_box j h =
 
 -- ---- the words
 
-abbrev branched : Bool → ℕ → ℕ → ℕ
+abbrev pub branched : Bool → ℕ → ℕ → ℕ
 branched true k l = k
 branched false k l = l
 
@@ -147,6 +147,10 @@ module _ (w : World) (x : Answer) (q : State) (t : Tally) where
   -- the link, as the stub stores to it
   abbrev pub linked : Run → ℕ → ℕ → Run
   linked r place v = record r { shared = stored r.shared place 8 v }
+
+  -- the shadow is stopped
+  abbrev pub stopped : Run → Run
+  stopped r = record r { shadow = record r.shadow { state = Stopped } }
 
   x29 : (r : Run) (k a b c v : ℕ) (page : Memory) → with_side r (stub_side q t k (with_reg (three q.registers a b c) 29 v) page) ≡ here r k v b c page
   x29 r k a b c v page = ap (λ rs. with_side r (stub_side q t k rs page)) (three-x29 q.registers a b c v)
@@ -271,7 +275,7 @@ module _ (w : World) (x : Answer) (q : State) (t : Tally) where
     word_25 = x31 r 26 a b c (loaded page (2 ^ 64 - 8) 8) page
 
     -- 28 hstop
-    pub word_28 : after_word r 28 a b c page ≡ here (record r { shadow = record r.shadow { state = Stopped } }) 29 a b c page
+    pub word_28 : after_word r 28 a b c page ≡ here (stopped r) 29 a b c page
     word_28 = refl
 
     -- 29 lui x30,0x42000
@@ -371,9 +375,12 @@ module _ (w : World) (x : Answer) (q : State) (t : Tally) where
       ap₂ (λ (e f : Bool). stub_after w x (here r k a b c page) (store_if e f place 8 v)) (eq-eqb (place % 8) 0 h) (link_bytes place 8 l m)
       ∙ ap (λ (p : Bool). stub_stored p (here r k a b c page) place 8 v) (not_private place (omega arith))
 
+  -- register j + 1 has gone into the box
+  abbrev pub boxed_in : Run → ℕ → ℕ → ℕ → Run
+  boxed_in r a b j = linked r (0x4200_1000 + 8 * suc j) (three q.registers a b 0x4200_1000 (suc j))
+
   -- 37 to 66 sd xi,8i(x31), for i = j + 1
-  pub word_37-66 : (r : Run) (a b j : ℕ) (page : Memory) → j < 30
-      → after_word r (37 + j) a b 0x4200_1000 page ≡ here (linked r (0x4200_1000 + 8 * suc j) (three q.registers a b 0x4200_1000 (suc j))) (38 + j) a b 0x4200_1000 page
+  pub word_37-66 : (r : Run) (a b j : ℕ) (page : Memory) → j < 30 → after_word r (37 + j) a b 0x4200_1000 page ≡ here (boxed_in r a b j) (38 + j) a b 0x4200_1000 page
   word_37-66 r a b j page h =
       let v : ℕ = three q.registers a b 0x4200_1000 (suc j) in
       let place : plus_int 0x4200_1000 (pos (8 * suc j)) ≡ 0x4200_1000 + 8 * suc j = omega arith in

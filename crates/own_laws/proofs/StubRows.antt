@@ -1,0 +1,213 @@
+-- The stub on the own side, by rows: what is known at each word, and that each word leads to the next row, or to the call.
+use Rattle.std.proofs.Common.{◌≡◌, ℕ, zero, suc, ◌+◌, ◌-◌, ◌*◌, ◌/◌, ◌%◌, ◌^◌, ◌≤◌, ◌<◌, ◌⊎◌, inl, inr, Bool, true, false, not, ℤ, pos, refl, ◌∙◌, ap, sym, subst, ◌==◌, arith, bit_and, nat_le, lit<, eqb→eq}
+use Rattle.std.proofs.lemmas.Nat.{and_mask}
+use Rattle.std.proofs.lemmas.Bool.{cases_lt}
+use Rattle.std.proofs.lemmas.Bool.Decides.{nat_tests}
+use Rattle.spec_base.specs.Word.{wrap, byte_of}
+use Rattle.rv_model.specs.Memory.{Memory, stored, patched, loaded}
+use Rattle.rv_model.specs.Registers.{Registers}
+use Rattle.program_model.specs.PlainRun.{State}
+use Rattle.program_model.specs.Cache.{Cache}
+use Rattle.run_model.specs.Run.{World, Run, Answer}
+use Rattle.own_laws.proofs.Patches.{loaded-stored, loaded-above_patch}
+use Rattle.own_laws.proofs.Side.{Side, side_of, with_side, Tally}
+use Rattle.own_laws.proofs.StubWords.{three, three-own, stub_side, at, restarted_tally, branched, after_word, linked, stopped, boxed_in, InLog, word_1, word_2, word_3, word_4, word_5, word_6, word_7, word_8, word_9, word_10, word_11, word_12, word_13, word_14, word_15, word_16, word_17, word_18, word_19, word_20, word_21, word_22, word_23, word_24, word_25, word_28, word_29, word_30, word_31, word_32, word_33, word_34, word_35, word_36, word_37-66, word_67, word_68, word_69, word_70, word_71}
+
+-- ---- what is known
+
+-- the places of the stub's page that hold a register of the program
+abbrev pub Saved31 : Memory → Registers → Type 0
+Saved31 page q = loaded page (2 ^ 64 - 8) 8 ≡ q 31
+
+abbrev pub Saved30 : Memory → Registers → Type 0
+Saved30 page q = loaded page (2 ^ 64 - 16) 8 ≡ q 30
+
+abbrev pub Saved29 : Memory → Registers → Type 0
+Saved29 page q = loaded page (2 ^ 64 - 24) 8 ≡ q 29
+
+-- x31, then x30 too, then x29 too
+pub record Two (page : Memory) (q : Registers) : Type 0 where
+  pub x31 : Saved31 page q
+  pub x30 : Saved30 page q
+
+pub record All (page : Memory) (q : Registers) : Type 0 where
+  pub x31 : Saved31 page q
+  pub x30 : Saved30 page q
+  pub x29 : Saved29 page q
+
+-- what is known before each word: where x29, x30 and x31 are the program's, what else they are, and which are saved
+pub data Row (q : Registers) : ℕ → ℕ → ℕ → ℕ → Memory → Type 0 where
+  w1 : {page : Memory} → Row q 1 (q 29) (q 30) (q 31) page
+  w2 : {page : Memory} → Saved31 page q → Row q 2 (q 29) (q 30) (q 31) page
+  w3 : {c : ℕ} {page : Memory} → Saved31 page q → Row q 3 (q 29) (q 30) c page
+  w4 : {c : ℕ} {page : Memory} → Saved31 page q → Row q 4 (q 29) (q 30) c page
+  w5 : {c : ℕ} {page : Memory} → Two page q → Row q 5 (q 29) (q 30) c page
+  w6 : {c : ℕ} {page : Memory} → All page q → Row q 6 (q 29) (q 30) c page
+  w7 : {a b c : ℕ} {page : Memory} → All page q → Row q 7 a b c page
+  w8 : {a c : ℕ} {page : Memory} → All page q → Row q 8 a 0x4200_0000 c page
+  w9 : {a c : ℕ} {page : Memory} → All page q → Row q 9 a 0x4200_0000 c page
+  w10 : {a c : ℕ} {page : Memory} → All page q → Row q 10 a 0x4200_0000 c page
+  w11 : {a c : ℕ} {page : Memory} → All page q → Row q 11 a 0x4200_0000 c page
+  w12 : {a : ℕ} {page : Memory} → All page q → Row q 12 a 0x4200_0000 (bit_and a 63) page
+  w13 : {a : ℕ} {page : Memory} → All page q → Row q 13 a 0x4200_0000 (wrap (bit_and a 63 * 2 ^ 4)) page
+  w14 : {a b c : ℕ} {page : Memory} → All page q → InLog c → Row q 14 a b c page
+  w15 : {a b c : ℕ} {page : Memory} → All page q → InLog c → Row q 15 a b c page
+  w16 : {a b c : ℕ} {page : Memory} → All page q → InLog c → Row q 16 a b c page
+  w17 : {a b c : ℕ} {page : Memory} → All page q → InLog c → Row q 17 a b c page
+  w18 : {a b c : ℕ} {page : Memory} → All page q → Row q 18 a b c page
+  w19 : {a b c : ℕ} {page : Memory} → All page q → Row q 19 a b c page
+  w20 : {a c : ℕ} {page : Memory} → All page q → Row q 20 a 0x4200_0000 c page
+  w21 : {a c : ℕ} {page : Memory} → All page q → Row q 21 a 0x4200_0000 c page
+  w22 : {a c : ℕ} {page : Memory} → All page q → Row q 22 a 0x4200_0000 c page
+  w23 : {a b c : ℕ} {page : Memory} → All page q → Row q 23 a b c page
+  w24 : {b c : ℕ} {page : Memory} → Two page q → Row q 24 (q 29) b c page
+  w25 : {c : ℕ} {page : Memory} → Saved31 page q → Row q 25 (q 29) (q 30) c page
+  w28 : {a b c : ℕ} {page : Memory} → All page q → Row q 28 a b c page
+  w29 : {a b c : ℕ} {page : Memory} → All page q → Row q 29 a b c page
+  w30 : {a c : ℕ} {page : Memory} → All page q → Row q 30 a 0x4200_0000 c page
+  w31 : {a c : ℕ} {page : Memory} → All page q → Row q 31 a 0x4200_0000 c page
+  w32 : {a b c : ℕ} {page : Memory} → All page q → Row q 32 a b c page
+  w33 : {a b : ℕ} {page : Memory} → All page q → Row q 33 a b 0x4200_1000 page
+  w34 : {a b : ℕ} {page : Memory} → All page q → Row q 34 a b 0x4200_1000 page
+  w35 : {a b : ℕ} {page : Memory} → All page q → Row q 35 a b 0x4200_1000 page
+  w36 : {a : ℕ} {page : Memory} → All page q → Row q 36 a (q 30) 0x4200_1000 page
+  w37-66 : (j : ℕ) {page : Memory} → j < 30 → Two page q → Row q (37 + j) (q 29) (q 30) 0x4200_1000 page
+  w67 : {page : Memory} → Two page q → Row q 67 (q 29) (q 30) 0x4200_1000 page
+  w68 : {b : ℕ} {page : Memory} → Two page q → Row q 68 (q 29) b 0x4200_1000 page
+  w69 : {b : ℕ} {page : Memory} → Two page q → Row q 69 (q 29) b 0x4200_1000 page
+  w70 : {c : ℕ} {page : Memory} → Saved31 page q → Row q 70 (q 29) (q 30) c page
+  w71 : {c : ℕ} {page : Memory} → Saved31 page q → Row q 71 (q 29) (q 30) c page
+
+-- how many words are left up to the call, at most
+abbrev pub left : ℕ → ℕ
+left k = elim (nat_le k 18) [ true ↦ 65 - k | false ↦ elim (nat_le k 26) [ true ↦ 27 - k | false ↦ 74 - k ] ]
+
+-- the counts, and those after a restart
+abbrev pub tally_after : Bool → State → Tally → Tally
+tally_after true q t = restarted_tally q t
+tally_after false q t = t
+
+-- a word leads to a row with fewer words left, or to the call with the program's own registers; the cache is left
+pub data WordGoes (q : State) (t : Tally) (k : ℕ) (cache : Cache) (next : Run) : Type 0 where
+  to_row : (restarts : Bool) (l a b c : ℕ) (page : Memory) → Row q.registers l a b c page → side_of next ≡ stub_side q (tally_after restarts q t) l (three q.registers a b c) page → left l < left k → next.cache ≡ cache → WordGoes q t k cache next
+  to_call : (page : Memory) → k ≡ 25 → side_of next ≡ stub_side q t 26 q.registers page → next.cache ≡ cache → WordGoes q t k cache next
+
+-- ---- saves
+
+module _ (page : Memory) (q : Registers) (fits : (n : ℕ) → q n < 2 ^ 64) where
+  save31 : Saved31 (stored page (2 ^ 64 - 8) 8 (q 31)) q
+  save31 = loaded-stored page (2 ^ 64 - 8) (q 31) (fits 31)
+
+  save30 : Saved31 page q → Two (stored page (2 ^ 64 - 16) 8 (q 30)) q
+  save30 s =
+      record {
+        x31 = loaded-above_patch page (2 ^ 64 - 16) 8 (byte_of (q 30)) (2 ^ 64 - 8) 8 (omega arith) ∙ s;
+        x30 = loaded-stored page (2 ^ 64 - 16) (q 30) (fits 30);
+      }
+
+  save29 : Two page q → All (stored page (2 ^ 64 - 24) 8 (q 29)) q
+  save29 s =
+      record {
+        x31 = loaded-above_patch page (2 ^ 64 - 24) 8 (byte_of (q 29)) (2 ^ 64 - 8) 8 (omega arith) ∙ s.x31;
+        x30 = loaded-above_patch page (2 ^ 64 - 24) 8 (byte_of (q 29)) (2 ^ 64 - 16) 8 (omega arith) ∙ s.x30;
+        x29 = loaded-stored page (2 ^ 64 - 24) (q 29) (fits 29);
+      }
+
+  -- the key's place lies apart
+  save_key : (v : ℕ) → All page q → All (stored page (2 ^ 64 - 64) 8 v) q
+  save_key v s =
+      record {
+        x31 = loaded-above_patch page (2 ^ 64 - 64) 8 (byte_of v) (2 ^ 64 - 8) 8 (omega arith) ∙ s.x31;
+        x30 = loaded-above_patch page (2 ^ 64 - 64) 8 (byte_of v) (2 ^ 64 - 16) 8 (omega arith) ∙ s.x30;
+        x29 = loaded-above_patch page (2 ^ 64 - 64) 8 (byte_of v) (2 ^ 64 - 24) 8 (omega arith) ∙ s.x29;
+      }
+
+-- the place that words 11 to 13 make of the head
+in_log : (a : ℕ) → InLog (wrap (wrap (bit_and a 63 * 2 ^ 4) + 0x4200_0000))
+in_log a =
+    let e : bit_and a 63 ≡ a % 2 ^ 6 = and_mask a 6 in
+    record { entry = bit_and a 63; below = omega (arith, e); is = omega (arith, e) }
+
+-- ---- each word
+
+module _ (w : World) (x : Answer) (q : State) (t : Tally) (fits : (n : ℕ) → q.registers n < 2 ^ 64) where
+  -- a word that leads to a row
+  to : {next : Run} (r r' : Run) (k l a b c : ℕ) (page : Memory) → next ≡ at q t r' l a b c page → Row q.registers l a b c page → left l < left k → r'.cache ≡ r.cache → WordGoes q t k r.cache next
+  to r r' k l a b c page e row less same = subst (λ n. WordGoes q t k r.cache n) (sym e) (to_row false l a b c page row refl less same)
+
+  branch_3 : (b : Bool) (r : Run) (c : ℕ) (page : Memory) → Saved31 page q.registers → WordGoes q t 3 r.cache (at q t r (branched b 25 4) (q.registers 29) (q.registers 30) c page)
+  branch_3 true r c page s = to r r 3 25 _ _ c page refl (w25 s) (lit< tt) refl
+  branch_3 false r c page s = to r r 3 4 _ _ c page refl (w4 s) (lit< tt) refl
+
+  branch_10 : (t? : Bool) (r : Run) (a c : ℕ) (page : Memory) → All page q.registers → WordGoes q t 10 r.cache (at q t r (branched t? 28 11) a 0x4200_0000 c page)
+  branch_10 true r a c page s = to r r 10 28 a _ c page refl (w28 s) (lit< tt) refl
+  branch_10 false r a c page s = to r r 10 11 a _ c page refl (w11 s) (lit< tt) refl
+
+  branch_16 : (t? : Bool) (r : Run) (a b c : ℕ) (page : Memory) → All page q.registers → InLog c → WordGoes q t 16 r.cache (at q t r (branched t? 28 17) a b c page)
+  branch_16 true r a b c page s l = to r r 16 28 a b c page refl (w28 s) (lit< tt) refl
+  branch_16 false r a b c page s l = to r r 16 17 a b c page refl (w17 s l) (lit< tt) refl
+
+  branch_18 : (t? : Bool) (r : Run) (a b c : ℕ) (page : Memory) → All page q.registers → WordGoes q t 18 r.cache (at q t r (branched t? 28 19) a b c page)
+  branch_18 true r a b c page s = to r r 18 28 a b c page refl (w28 s) (lit< tt) refl
+  branch_18 false r a b c page s = to r r 18 19 a b c page refl (w19 s) (lit< tt) refl
+
+  -- word 37 + j leads to the next register, and the last to word 67
+  next_register : (r : Run) (j : ℕ) (page : Memory) → j < 30 → Two page q.registers → (j + 1 < 30) ⊎ (30 ≤ j + 1)
+      → WordGoes q t (37 + j) r.cache (after_word w x q t r (37 + j) (q.registers 29) (q.registers 30) 0x4200_1000 page)
+  next_register r j page h s (inl l) =
+      let r' : Run = boxed_in w x q t r (q.registers 29) (q.registers 30) j in
+      let next : 38 + j ≡ 37 + (j + 1) = omega arith in
+      to r r' (37 + j) (37 + (j + 1)) _ _ _ page
+      (word_37-66 w x q t r _ _ j page h ∙ ap (λ k. at q t r' k (q.registers 29) (q.registers 30) 0x4200_1000 page) next)
+      (w37-66 (j + 1) l s) (grind (arith, nat_tests)) refl
+  next_register r j page h s (inr l) =
+      let r' : Run = boxed_in w x q t r (q.registers 29) (q.registers 30) j in
+      let next : 38 + j ≡ 67 = omega arith in
+      to r r' (37 + j) 67 _ _ _ page
+      (word_37-66 w x q t r _ _ j page h ∙ ap (λ k. at q t r' k (q.registers 29) (q.registers 30) 0x4200_1000 page) next)
+      (w67 s) (grind (arith, nat_tests)) refl
+
+  pub word_goes : (r : Run) (k a b c : ℕ) (page : Memory) → Row q.registers k a b c page → WordGoes q t k r.cache (after_word w x q t r k a b c page)
+  word_goes r _ a b c page w1 = to r r 1 2 _ _ _ _ (word_1 w x q t r _ _ _ page) (w2 (save31 page q.registers fits)) (lit< tt) refl
+  word_goes r _ a b c page (w2 s) = to r r 2 3 _ _ _ page (word_2 w x q t r _ _ _ page) (w3 s) (lit< tt) refl
+  word_goes r _ a b c page (w3 s) = subst (λ n. WordGoes q t 3 r.cache n) (sym (word_3 w x q t r _ _ c page)) (branch_3 (c == 0) r c page s)
+  word_goes r _ a b c page (w4 s) = to r r 4 5 _ _ c _ (word_4 w x q t r _ _ c page) (w5 (save30 page q.registers fits s)) (lit< tt) refl
+  word_goes r _ a b c page (w5 s) = to r r 5 6 _ _ c _ (word_5 w x q t r _ _ c page) (w6 (save29 page q.registers fits s)) (lit< tt) refl
+  word_goes r _ a b c page (w6 s) = to r r 6 7 _ _ c _ (word_6 w x q t r _ _ c page) (w7 (save_key page q.registers fits c s)) (lit< tt) refl
+  word_goes r _ a b c page (w7 s) = to r r 7 8 a _ c page (word_7 w x q t r a b c page) (w8 s) (lit< tt) refl
+  word_goes r _ a b c page (w8 s) = to r r 8 9 _ _ c page (word_8 w x q t r a 0 c page) (w9 s) (lit< tt) refl
+  word_goes r _ a b c page (w9 s) = to r r 9 10 a _ _ page (word_9 w x q t r a 0 c page) (w10 s) (lit< tt) refl
+  word_goes r _ a b c page (w10 s) = subst (λ n. WordGoes q t 10 r.cache n) (sym (word_10 w x q t r a _ c page)) (branch_10 (a == c) r a c page s)
+  word_goes r _ a b c page (w11 s) = to r r 11 12 a _ _ page (word_11 w x q t r a _ c page) (w12 s) (lit< tt) refl
+  word_goes r _ a b c page (w12 s) = to r r 12 13 a _ _ page (word_12 w x q t r a _ _ page) (w13 s) (lit< tt) refl
+  word_goes r _ a b c page (w13 s) = to r r 13 14 a _ _ page (word_13 w x q t r a _ _ page) (w14 s (in_log a)) (lit< tt) refl
+  word_goes r _ a b c page (w14 s l) = to r r 14 15 _ b c page (word_14 w x q t r a b c page l) (w15 s l) (lit< tt) refl
+  word_goes r _ a b c page (w15 s l) = to r r 15 16 a _ c page (word_15 w x q t r a b c page) (w16 s l) (lit< tt) refl
+  word_goes r _ a b c page (w16 s l) = subst (λ n. WordGoes q t 16 r.cache n) (sym (word_16 w x q t r a b c page)) (branch_16 (not (a == b)) r a b c page s l)
+  word_goes r _ a b c page (w17 s l) = to r r 17 18 _ b c page (word_17 w x q t r a b c page l) (w18 s) (lit< tt) refl
+  word_goes r _ a b c page (w18 s) = subst (λ n. WordGoes q t 18 r.cache n) (sym (word_18 w x q t r a b c page)) (branch_18 (not (a == q.registers 12)) r a b c page s)
+  word_goes r _ a b c page (w19 s) = to r r 19 20 a _ c page (word_19 w x q t r a b c page) (w20 s) (lit< tt) refl
+  word_goes r _ a b c page (w20 s) = to r r 20 21 _ _ c page (word_20 w x q t r a 0 c page) (w21 s) (lit< tt) refl
+  word_goes r _ a b c page (w21 s) = to r r 21 22 _ _ c page (word_21 w x q t r a _ c page) (w22 s) (lit< tt) refl
+  word_goes r _ a b c page (w22 s) = to r (linked w x q t r 0x4200_0000 a) 22 23 a _ c page (word_22 w x q t r a 0 c page) (w23 s) (lit< tt) refl
+  word_goes r _ a b c page (w23 s) = to r r 23 24 _ b c page (word_23 w x q t r a b c page) (subst (λ n. Row q.registers 24 n b c page) (sym s.x29) (w24 (record { x31 = s.x31; x30 = s.x30 }))) (lit< tt) refl
+  word_goes r _ a b c page (w24 s) = to r r 24 25 _ _ c page (word_24 w x q t r _ b c page) (subst (λ n. Row q.registers 25 (q.registers 29) n c page) (sym s.x30) (w25 s.x31)) (lit< tt) refl
+  word_goes r _ a b c page (w25 s) =
+      subst (λ n. WordGoes q t 25 r.cache n) (sym (word_25 w x q t r _ _ c page ∙ ap (λ n. at q t r 26 (q.registers 29) (q.registers 30) n page) s ∙ ap (λ rs. with_side r (stub_side q t 26 rs page)) (three-own q.registers)))
+      (to_call page refl refl refl)
+  word_goes r _ a b c page (w28 s) = to r (stopped w x q t r) 28 29 a b c page (word_28 w x q t r a b c page) (w29 s) (lit< tt) refl
+  word_goes r _ a b c page (w29 s) = to r r 29 30 a _ c page (word_29 w x q t r a b c page) (w30 s) (lit< tt) refl
+  word_goes r _ a b c page (w30 s) = to r (linked w x q t r 0x4200_0000 0) 30 31 a _ c page (word_30 w x q t r a 0 c page) (w31 s) (lit< tt) refl
+  word_goes r _ a b c page (w31 s) = to r (linked w x q t r 0x4200_0008 0) 31 32 a _ c page (word_31 w x q t r a 0 c page) (w32 s) (lit< tt) refl
+  word_goes r _ a b c page (w32 s) = to r r 32 33 a b _ page (word_32 w x q t r a b c page) (w33 s) (lit< tt) refl
+  word_goes r _ a b c page (w33 s) = to r r 33 34 a _ _ page (word_33 w x q t r a b _ page) (w34 s) (lit< tt) refl
+  word_goes r _ a b c page (w34 s) = to r (linked w x q t r 0x4200_1000 b) 34 35 a b _ page (word_34 w x q t r a b 0 page) (w35 s) (lit< tt) refl
+  word_goes r _ a b c page (w35 s) = to r r 35 36 a _ _ page (word_35 w x q t r a b _ page) (subst (λ n. Row q.registers 36 a n 0x4200_1000 page) (sym s.x30) (w36 s)) (lit< tt) refl
+  word_goes r _ a b c page (w36 s) =
+      to r r 36 (37 + 0) _ _ _ page (word_36 w x q t r a _ _ page) (subst (λ n. Row q.registers (37 + 0) n (q.registers 30) 0x4200_1000 page) (sym s.x29) (w37-66 0 (lit< tt) (record { x31 = s.x31; x30 = s.x30 }))) (lit< tt) refl
+  word_goes r _ a b c page (w37-66 j h s) = next_register r j page h s (cases_lt (j + 1) 30)
+  word_goes r _ a b c page (w67 s) = to r r 67 68 _ _ _ page (word_67 w x q t r _ _ _ page) (w68 s) (lit< tt) refl
+  word_goes r _ a b c page (w68 s) = to r (linked w x q t r 0x4200_10F8 b) 68 69 _ b _ page (word_68 w x q t r _ b 0 page) (w69 s) (lit< tt) refl
+  word_goes r _ a b c page (w69 s) = to r r 69 70 _ _ _ page (word_69 w x q t r _ b _ page) (subst (λ n. Row q.registers 70 (q.registers 29) n 0x4200_1000 page) (sym s.x30) (w70 s.x31)) (lit< tt) refl
+  word_goes r _ a b c page (w70 s) = subst (λ n. WordGoes q t 70 r.cache n) (sym (word_70 w x q t r _ _ c page)) (to_row true 71 _ _ c page (w71 s) refl (lit< tt) refl)
+  word_goes r _ a b c page (w71 s) = to r r 71 25 _ _ c page (word_71 w x q t r _ _ c page) (w25 s) (lit< tt) refl
