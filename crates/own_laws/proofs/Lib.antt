@@ -6,3 +6,6 @@ pub mod Bounds
 pub mod StubWords
 pub mod Patches
 pub mod StubRows
+pub mod Reached
+pub mod OwnSide
+pub mod OwnLaws
