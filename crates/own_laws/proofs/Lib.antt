@@ -9,3 +9,4 @@ pub mod StubRows
 pub mod Reached
 pub mod OwnSide
 pub mod OwnLaws
+pub mod Demand

@@ -249,7 +249,7 @@ module _ (w : World) where
 
   stub-goes : (t : Tally) (q : State) (k : ℕ) (r r' : Run) → AtCall w t q → WordGoes q t k r.cache r' → OwnSide w (side_of r')
   stub-goes t q k r r' g (to_row b l x29 x30 x31 page row is less same) = in_stub (tally_after b q t) q l x29 x30 x31 page (after_restart b t q g) row is
-  stub-goes t q k r r' g (to_call page e is same) = at_call t q page g is
+  stub-goes t q k r r' g (to_call page is less same) = at_call t q page g is
 
   module _ (accepted : Accepted w) where
     own-goes : (x : Answer) (r : Run) → r.end ≡ None → OwnSide w (side_of r) → OwnSide w (side_of (own_step w x r))

@@ -78,9 +78,13 @@ pub data Row (q : Registers) : ℕ → ℕ → ℕ → ℕ → Memory → Type 0
   w70 : {c : ℕ} {page : Memory} → Saved31 page q → Row q 70 (q 29) (q 30) c page
   w71 : {c : ℕ} {page : Memory} → Saved31 page q → Row q 71 (q 29) (q 30) c page
 
--- how many words are left up to the call, at most
+-- how many words are left up to the call, at most; from the word behind the call more than from the program's next gate
 abbrev pub left : ℕ → ℕ
-left k = elim (nat_le k 18) [ true ↦ 65 - k | false ↦ elim (nat_le k 26) [ true ↦ 27 - k | false ↦ 74 - k ] ]
+left k =
+    elim (nat_le k 18) [
+      | true ↦ 65 - k
+      | false ↦ elim (nat_le k 26) [ true ↦ 26 - k | false ↦ elim (nat_le k 27) [ true ↦ 102 | false ↦ 73 - k ] ]
+    ]
 
 -- the counts, and those after a restart
 abbrev pub tally_after : Bool → State → Tally → Tally
@@ -90,7 +94,7 @@ tally_after false q t = t
 -- a word leads to a row with fewer words left, or to the call with the program's own registers; the cache is left
 pub data WordGoes (q : State) (t : Tally) (k : ℕ) (cache : Cache) (next : Run) : Type 0 where
   to_row : (restarts : Bool) (l a b c : ℕ) (page : Memory) → Row q.registers l a b c page → side_of next ≡ stub_side q (tally_after restarts q t) l (three q.registers a b c) page → left l < left k → next.cache ≡ cache → WordGoes q t k cache next
-  to_call : (page : Memory) → k ≡ 25 → side_of next ≡ stub_side q t 26 q.registers page → next.cache ≡ cache → WordGoes q t k cache next
+  to_call : (page : Memory) → side_of next ≡ stub_side q t 26 q.registers page → left 26 < left k → next.cache ≡ cache → WordGoes q t k cache next
 
 -- ---- saves
 
@@ -194,7 +198,7 @@ module _ (w : World) (x : Answer) (q : State) (t : Tally) (fits : (n : ℕ) → 
   word_goes r _ a b c page (w24 s) = to r r 24 25 _ _ c page (word_24 w x q t r _ b c page) (subst (λ n. Row q.registers 25 (q.registers 29) n c page) (sym s.x30) (w25 s.x31)) (lit< tt) refl
   word_goes r _ a b c page (w25 s) =
       subst (λ n. WordGoes q t 25 r.cache n) (sym (word_25 w x q t r _ _ c page ∙ ap (λ n. at q t r 26 (q.registers 29) (q.registers 30) n page) s ∙ ap (λ rs. with_side r (stub_side q t 26 rs page)) (three-own q.registers)))
-      (to_call page refl refl refl)
+      (to_call page refl (lit< tt) refl)
   word_goes r _ a b c page (w28 s) = to r (stopped w x q t r) 28 29 a b c page (word_28 w x q t r a b c page) (w29 s) (lit< tt) refl
   word_goes r _ a b c page (w29 s) = to r r 29 30 a _ c page (word_29 w x q t r a b c page) (w30 s) (lit< tt) refl
   word_goes r _ a b c page (w30 s) = to r (linked w x q t r 0x4200_0000 0) 30 31 a _ c page (word_30 w x q t r a 0 c page) (w31 s) (lit< tt) refl
