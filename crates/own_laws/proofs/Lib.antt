@@ -10,3 +10,5 @@ pub mod Reached
 pub mod OwnSide
 pub mod OwnLaws
 pub mod Demand
+pub mod Gets
+pub mod Progress

@@ -2,15 +2,17 @@
 //! outside. They stand in `run_model`'s specs, and their proofs here.
 #![tactic(auto)]
 
-ghost use Rattle.run_model.specs.OwnLaws.{Preserved, ShadowIsInvisible, OwnFollows};
+ghost use Rattle.run_model.specs.OwnLaws.{Preserved, ShadowIsInvisible, Progress, OwnFollows};
 
 /// The rewritten program does what the plain program does in as many instructions: its calls with
 /// their answers, the bytes that it put and how many of each put were taken, and its end. A move of
 /// the shadow leaves all that is the program's, puts nothing, and hears from the outside only that a
-/// look failed. While each put since the last restart was taken whole, what was done since then is
+/// look failed. 200 stretches of moves, each with an own move and a fetch, complete an instruction or
+/// end the run. While each put since the last restart was taken whole, what was done since then is
 /// what the plain program does from the restart on.
 pub fn preserved()
     ensures preservation { Preserved }
     ensures invisible { ShadowIsInvisible }
+    ensures progress { Progress }
     ensures own_follows { OwnFollows }
 {}
