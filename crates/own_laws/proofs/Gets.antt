@@ -127,7 +127,7 @@ module _ (w : World) (x : Answer) where
   module _ (accepted : Accepted w) where
     own-gets : (r : Run) → OwnSide w (side_of r) → Demand r → r.stalled ≡ false → r.end ≡ None → Gets r (own_step w x r)
     own-gets r (in_program t site gate s page h f is) d n z = placed w (λ r. Demand r → Gets r (own_step w x r)) r _ is (program-gets r t site gate s page) d
-    own-gets r (in_stub t q k a b c page g row is) d n z =
+    own-gets r (in_stub t q k a b c page g row most is) d n z =
         placed w (λ r. Demand r → Gets r (own_step w x r)) r _ is
         (λ d. word-lowers _ _ q t k (three q.registers a b c) page refl (sym d.same) (word_goes w x q t (reached-fits w accepted t q g.reached) r k a b c page row)) d
     own-gets r (at_call t q page g is) d n z = placed w (λ r. Demand r → Gets r (own_step w x r)) r _ is (call-gets r t q page (plan w q) (plan-small w q)) d
@@ -143,7 +143,7 @@ module _ (w : World) (x : Answer) where
   waiting : (r : Run) → OwnSide w (side_of r) → r.stalled ≡ true → r.end ≡ None
       → (rank (side_of r) ≡ 2 * (17 - r.gathered)) × (rank (record (side_of r) { stalled = false; tally = record (side_of r).tally { gathered = r.gathered + 1 } }) ≡ 2 * (17 - (r.gathered + 1)) + 1)
   waiting r (in_program t site gate s page h f is) n z = false_true (sym (ap (λ p. p.stalled) is) ∙ n)
-  waiting r (in_stub t q k a b c page g row is) n z = false_true (sym (ap (λ p. p.stalled) is) ∙ n)
+  waiting r (in_stub t q k a b c page g row most is) n z = false_true (sym (ap (λ p. p.stalled) is) ∙ n)
   waiting r (at_call t q page g is) n z = false_true (sym (ap (λ p. p.stalled) is) ∙ n)
   waiting r (called t q s k page h f y p is) n z = false_true (sym (ap (λ p. p.stalled) is) ∙ n)
   waiting r (over s e h o) n z = none_some (sym z ∙ o.ended)

@@ -12,3 +12,4 @@ pub mod OwnLaws
 pub mod Demand
 pub mod Gets
 pub mod Progress
+pub mod OneCall

@@ -30,7 +30,7 @@ use Rattle.own_laws.proofs.InvisibleShadow.{shadow_move-keeps}
 use Rattle.own_laws.proofs.Reached.{Reached, LeadsTo, Agrees, Fixes-last, length-bytes_at, reached-more, reached-with, reached-fits, completed_tally, end_of-step, whole_put, none_some, false_true}
 use Rattle.own_laws.proofs.Side.{Side, side_of, with_side, Tally, Kept}
 use Rattle.own_laws.proofs.StubWords.{three, three-own, stub_side, restarted_tally}
-use Rattle.own_laws.proofs.StubRows.{Row, w1, WordGoes, to_row, to_call, word_goes, tally_after}
+use Rattle.own_laws.proofs.StubRows.{Row, w1, left, WordGoes, to_row, to_call, word_goes, tally_after}
 
 -- ---- stages
 
@@ -66,7 +66,7 @@ pub record Over (w : World) (s : State) (p : Side) (e : RunEnd) : Type 0 where
 
 pub data OwnSide (w : World) (p : Side) : Type 0 where
   in_program : (t : Tally) (site : ℕ) (gate s : State) (page : Memory) → Reached w t s → s.exited ≡ None → p ≡ program_side s site gate page t → OwnSide w p
-  in_stub : (t : Tally) (q : State) (k a b c : ℕ) (page : Memory) → AtCall w t q → Row q.registers k a b c page → p ≡ stub_side q t k (three q.registers a b c) page → OwnSide w p
+  in_stub : (t : Tally) (q : State) (k a b c : ℕ) (page : Memory) → AtCall w t q → Row q.registers k a b c page → left k ≤ 64 → p ≡ stub_side q t k (three q.registers a b c) page → OwnSide w p
   at_call : (t : Tally) (q : State) (page : Memory) → AtCall w t q → p ≡ stub_side q t 26 q.registers page → OwnSide w p
   waits : (t : Tally) (q : State) (page : Memory) → AtCall w t q → p ≡ waiting_side q t page → OwnSide w p
   called : (t : Tally) (q s : State) (taken : ℕ) (page : Memory) → Reached w t s → s.exited ≡ None → s ≡ performed w.files taken (plan w q) q → wrap (q.pc + 4) ≡ s.pc → p ≡ called_side q s t page → OwnSide w p
@@ -93,7 +93,7 @@ some_none e = none_some (sym e)
 
 pub follows : (w : World) (p : Side) → OwnSide w p → Follows w p
 follows w p (in_program t site gate s page h f is) = subst (λ p. Follows w p) (sym is) (record { state = s; reached = h; own = refl; place = λ e. refl; end = λ taken. tt; goes_on = λ e. f })
-follows w p (in_stub t q k a b c page g row is) = subst (λ p. Follows w p) (sym is) (record { state = q; reached = g.reached; own = refl; place = λ e. stub_program e; end = λ taken. tt; goes_on = λ e. g.going })
+follows w p (in_stub t q k a b c page g row most is) = subst (λ p. Follows w p) (sym is) (record { state = q; reached = g.reached; own = refl; place = λ e. stub_program e; end = λ taken. tt; goes_on = λ e. g.going })
 follows w p (at_call t q page g is) = subst (λ p. Follows w p) (sym is) (record { state = q; reached = g.reached; own = refl; place = λ e. stub_program e; end = λ taken. tt; goes_on = λ e. g.going })
 follows w p (waits t q page g is) = subst (λ p. Follows w p) (sym is) (record { state = q; reached = g.reached; own = refl; place = λ e. stub_program e; end = λ taken. tt; goes_on = λ e. g.going })
 follows w p (called t q s k page h f z n is) = subst (λ p. Follows w p) (sym is) (record { state = s; reached = h; own = refl; place = λ e. stub_program e; end = λ taken. tt; goes_on = λ e. f })
@@ -121,7 +121,7 @@ module _ (w : World) where
         over s (Traps cause s.pc) h (record { ended = refl; own = refl; place = λ e. refl; same = λ taken. end_of-step w taken s _ f (k taken) })
     after_effect-goes Called n k =
         in_stub (record t { asked = false }) s 1 _ _ _ page
-        (record { reached = reached-with w t t.gathered false s h; going = f; calls = k }) w1
+        (record { reached = reached-with w t t.gathered false s h; going = f; calls = k }) w1 (omega arith)
         (ap (λ rs. stub_side s (record t { asked = false }) 1 rs page) (sym (three-own s.registers)))
     after_effect-goes (Gated i) n k = absurd n.by
 
@@ -247,15 +247,16 @@ module _ (w : World) where
       restarted : (n : ℕ) → true ≡ not (n + 1 == 0)
       restarted n = grind (arith, nat_tests)
 
-  stub-goes : (t : Tally) (q : State) (k : ℕ) (r r' : Run) → AtCall w t q → WordGoes q t k r.cache r' → OwnSide w (side_of r')
-  stub-goes t q k r r' g (to_row b l x29 x30 x31 page row is less same) = in_stub (tally_after b q t) q l x29 x30 x31 page (after_restart b t q g) row is
-  stub-goes t q k r r' g (to_call page is less same) = at_call t q page g is
+  stub-goes : (t : Tally) (q : State) (k : ℕ) (r r' : Run) → AtCall w t q → left k ≤ 64 → WordGoes q t k r.cache r' → OwnSide w (side_of r')
+  stub-goes t q k r r' g most (to_row b l x29 x30 x31 page row is less same) =
+      in_stub (tally_after b q t) q l x29 x30 x31 page (after_restart b t q g) row (omega (arith, less, most)) is
+  stub-goes t q k r r' g most (to_call page is less same) = at_call t q page g is
 
   module _ (accepted : Accepted w) where
     own-goes : (x : Answer) (r : Run) → r.end ≡ None → OwnSide w (side_of r) → OwnSide w (side_of (own_step w x r))
     own-goes x r z (in_program t site gate s page h f is) = placed (λ r. OwnSide w (side_of (own_step w x r))) r _ is (program-goes r t site gate s page h f)
-    own-goes x r z (in_stub t q k a b c page g row is) =
-        placed (λ r. OwnSide w (side_of (own_step w x r))) r _ is (stub-goes t q k r _ g (word_goes w x q t (reached-fits w accepted t q g.reached) r k a b c page row))
+    own-goes x r z (in_stub t q k a b c page g row most is) =
+        placed (λ r. OwnSide w (side_of (own_step w x r))) r _ is (stub-goes t q k r _ g most (word_goes w x q t (reached-fits w accepted t q g.reached) r k a b c page row))
     own-goes x r z (at_call t q page g is) = placed (λ r. OwnSide w (side_of (own_step w x r))) r _ is (call-goes r t q page g x (plan w q) refl)
     own-goes x r z (waits t q page g is) = placed (λ r. OwnSide w (side_of (own_step w x r))) r _ is (waits t q page g refl)
     own-goes x r z (called t q s k page h f y n is) =
@@ -280,7 +281,7 @@ module _ (w : World) where
 
     wakes : (p : Side) → p.end ≡ None → OwnSide w p → OwnSide w (awake p)
     wakes p z (in_program t site gate s page h f is) = in_program (more t) site gate s page (reached-with w t (t.gathered + 1) t.asked s h) f (ap awake is)
-    wakes p z (in_stub t q k a b c page g row is) = in_stub (more t) q k a b c page (had_more t q g) row (ap awake is)
+    wakes p z (in_stub t q k a b c page g row most is) = in_stub (more t) q k a b c page (had_more t q g) row most (ap awake is)
     wakes p z (at_call t q page g is) = at_call (more t) q page (had_more t q g) (ap awake is)
     wakes p z (waits t q page g is) = at_call (more t) q page (had_more t q g) (ap awake is)
     wakes p z (called t q s k page h f y n is) = called (more t) q s k page (reached-with w t (t.gathered + 1) t.asked s h) f y n (ap awake is)

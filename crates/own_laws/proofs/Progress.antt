@@ -154,7 +154,7 @@ module _ (w : World) (accepted : Accepted w) where
   -- while a run goes on, own moves are left
   rank-positive : (r : Run) → OwnSide w (side_of r) → Demand r → r.end ≡ None → 0 < rank (side_of r)
   rank-positive r (in_program t site gate s page h f is) d z = omega (arith, rank-program (side_of r) (ap (λ p. p.view) is))
-  rank-positive r (in_stub t q k a b c page g row is) d z = omega (arith, ap rank is, rank-stub q q t false k (three q.registers a b c) page)
+  rank-positive r (in_stub t q k a b c page g row most is) d z = omega (arith, ap rank is, rank-stub q q t false k (three q.registers a b c) page)
   rank-positive r (at_call t q page g is) d z = omega (arith, ap rank is, rank-stub q q t false 26 q.registers page)
   rank-positive r (waits t q page g is) d z =
       omega (arith, ap rank is, rank-stub q q t true 26 q.registers page, d.room (ap (λ p. p.stalled) is), ap (λ p. p.tally.gathered) is)

@@ -16,3 +16,11 @@ pub fn preserved()
     ensures progress { Progress }
     ensures own_follows { OwnFollows }
 {}
+
+ghost use Rattle.own_laws.specs.StubLaws.{StubIsOneCall};
+
+/// Behind the call of the stub the own hart has done the call that it met at its gate, and nothing
+/// else: all registers but x10 are those at the gate.
+pub fn stub_is_one_call()
+    ensures one_call { StubIsOneCall }
+{}

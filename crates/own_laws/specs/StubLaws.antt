@@ -1,0 +1,93 @@
+-- A passage through the stub: one call is performed, and the hint log is left, loses its oldest pair, or is emptied before a restart (this project's own).
+use Rattle.std.specs.Prelude.{ℕ, zero, suc, ◌+◌, ◌^◌, ◌≡◌, ◌≢◌, ◌≤◌, ◌<◌, Bool, true, false, List, [], ◌∷◌, Option, Some, None}
+use Rattle.spec_base.specs.declared.machine.View.TheVariants.{Program, Stub}
+use Rattle.spec_base.specs.declared.note.Move.TheVariants.{O}
+use Rattle.rv_model.specs.Memory.{Memory, stored}
+use Rattle.rv_model.specs.Registers.{Registers, reg}
+use Rattle.program_model.specs.Calls.{key_of}
+use Rattle.program_model.specs.PlainRun.{State, plan_of, performed}
+use Rattle.code_model.specs.Log.{log_head, log_tail, logged, boxed_site, boxed}
+use Rattle.run_model.specs.Run.{World, Run, Answer}
+use Rattle.run_model.specs.Moves.{Moves, step, run, run_from}
+use Rattle.run_model.specs.OwnLaws.{Accepted, IsShadowMove}
+
+-- ---- one call
+
+-- the stub's word 27, HLEAVE
+abbrev pub leave_word : ℕ
+leave_word = 0x4180_0068
+
+-- the own hart is about to leave the stub
+pub record IsLeaving (r : Run) : Type 0 where
+  pub view : r.view ≡ Stub
+  pub word : r.own.pc ≡ leave_word
+  pub goes_on : r.end ≡ None
+
+-- the own hart has done the call that it met at its gate, and nothing else: all registers but x10 are those at the gate
+pub record IsOneCall (w : World) (r : Run) : Type 0 where
+  pub taken : ℕ
+  pub own : r.own ≡ record (performed w.files taken (plan_of w.image.layout r.at_gate) r.at_gate) { pc = leave_word }
+  pub registers : (i : ℕ) → i ≢ 10 → r.own.registers i ≡ r.at_gate.registers i
+
+abbrev pub StubIsOneCall : Type 0
+StubIsOneCall = (w : World) → Accepted w → (ms : Moves) → IsLeaving (run w ms) → IsOneCall w (run w ms)
+
+-- ---- the log
+
+-- a log has only got pairs behind its tail
+pub record Appends (old new : Memory) : Type 0 where
+  pub head : log_head new ≡ log_head old
+  pub tail : log_tail old ≤ log_tail new
+  pub below : log_tail new < 2 ^ 64
+  pub pairs : (i : ℕ) → log_head old ≤ i → i < log_tail old → logged new i ≡ logged old i
+
+-- the oldest pair of a log is this one
+pub record IsOldest (log : Memory) (key count : ℕ) : Type 0 where
+  pub some : log_head log < log_tail log
+  pub pair : logged log (log_head log) ≡ (key, count)
+
+-- the log without its oldest pair
+abbrev pub without_oldest : Memory → Memory
+without_oldest log = stored log 0x4200_0000 8 (log_head log + 1)
+
+pub record IsEmpty (log : Memory) : Type 0 where
+  pub head : log_head log ≡ 0
+  pub tail : log_tail log ≡ 0
+
+-- the box holds a state's pc and its registers
+pub record IsBoxed (link : Memory) (s : State) : Type 0 where
+  pub site : boxed_site link ≡ s.pc
+  pub registers : (i : ℕ) → i ≤ 31 → boxed link i ≡ reg s.registers i
+
+-- what becomes of the log in a call with this key and count, and whether the shadow is restarted for it. A keyed call is judged at one moment, by the log as it is then
+pub data Outcome (q : State) (key count : ℕ) (before : Memory) : Bool → Memory → Type 0 where
+  keyless : {after : Memory} → key ≡ 0 → Appends before after → Outcome q key count before false after
+  takes : {after : Memory} (judged : Memory) → 0 < key → Appends before judged → IsOldest judged key count → Appends (without_oldest judged) after → Outcome q key count before false after
+  empties : {after : Memory} (judged emptied : Memory) → 0 < key → Appends before judged → (IsOldest judged key count → ⊥) → IsEmpty emptied → IsBoxed emptied q → Appends emptied after → Outcome q key count before true after
+
+-- ---- a passage
+
+-- in these moves the own hart stays in the stub, and a move of the shadow only appends to the log
+abbrev pub Passing : World → Run → Moves → Type 0
+Passing w r [] = (r.view ≡ Stub)
+Passing w r (m ∷ ms) = (r.view ≡ Stub) × (IsShadowMove m.0 → Appends r.shared (step w r m).shared) × Passing w (step w r m) ms
+
+-- one restart comes before the call, or none
+abbrev pub restarts_after : Bool → ℕ → ℕ
+restarts_after true n = n + 1
+restarts_after false n = n
+
+-- from the gate, which the own hart met in the state q, to the word that leaves the stub
+pub record IsPassage (w : World) (gate leave : Run) : Type 0 where
+  pub same_call : leave.at_gate ≡ gate.at_gate
+  pub one_done : leave.own_done ≡ gate.own_done + 1
+  pub restarts : leave.restarts ≡ restarts_after leave.asked gate.restarts
+  pub log : Outcome gate.at_gate (key_of (plan_of w.image.layout gate.at_gate)) (reg gate.at_gate.registers 12) gate.shared leave.asked leave.shared
+
+-- an own move meets a gate of the program, and in the moves behind it the own hart comes to leave the stub
+abbrev pub StubKeepsLog : Type 0
+StubKeepsLog =
+    (w : World) → Accepted w → (ms : Moves) (x : Answer) (on : Moves) →
+    let program = run w ms in let gate = step w program (O, x) in
+    program.view ≡ Program → log_head gate.shared ≤ log_tail gate.shared → log_tail gate.shared < 2 ^ 64 →
+    Passing w gate on → IsLeaving (run_from w gate on) → IsPassage w gate (run_from w gate on)
