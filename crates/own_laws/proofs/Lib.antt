@@ -13,3 +13,4 @@ pub mod Demand
 pub mod Gets
 pub mod Progress
 pub mod OneCall
+pub mod LogChanges

@@ -99,17 +99,17 @@ pub data WordGoes (q : State) (t : Tally) (k : ℕ) (cache : Cache) (next : Run)
 -- ---- saves
 
 module _ (page : Memory) (q : Registers) (fits : (n : ℕ) → q n < 2 ^ 64) where
-  save31 : Saved31 (stored page (2 ^ 64 - 8) 8 (q 31)) q
+  pub save31 : Saved31 (stored page (2 ^ 64 - 8) 8 (q 31)) q
   save31 = loaded-stored page (2 ^ 64 - 8) (q 31) (fits 31)
 
-  save30 : Saved31 page q → Two (stored page (2 ^ 64 - 16) 8 (q 30)) q
+  pub save30 : Saved31 page q → Two (stored page (2 ^ 64 - 16) 8 (q 30)) q
   save30 s =
       record {
         x31 = loaded-above_patch page (2 ^ 64 - 16) 8 (byte_of (q 30)) (2 ^ 64 - 8) 8 (omega arith) ∙ s;
         x30 = loaded-stored page (2 ^ 64 - 16) (q 30) (fits 30);
       }
 
-  save29 : Two page q → All (stored page (2 ^ 64 - 24) 8 (q 29)) q
+  pub save29 : Two page q → All (stored page (2 ^ 64 - 24) 8 (q 29)) q
   save29 s =
       record {
         x31 = loaded-above_patch page (2 ^ 64 - 24) 8 (byte_of (q 29)) (2 ^ 64 - 8) 8 (omega arith) ∙ s.x31;
@@ -118,7 +118,7 @@ module _ (page : Memory) (q : Registers) (fits : (n : ℕ) → q n < 2 ^ 64) whe
       }
 
   -- the key's place lies apart
-  save_key : (v : ℕ) → All page q → All (stored page (2 ^ 64 - 64) 8 v) q
+  pub save_key : (v : ℕ) → All page q → All (stored page (2 ^ 64 - 64) 8 v) q
   save_key v s =
       record {
         x31 = loaded-above_patch page (2 ^ 64 - 64) 8 (byte_of v) (2 ^ 64 - 8) 8 (omega arith) ∙ s.x31;
@@ -127,7 +127,7 @@ module _ (page : Memory) (q : Registers) (fits : (n : ℕ) → q n < 2 ^ 64) whe
       }
 
 -- the place that words 11 to 13 make of the head
-in_log : (a : ℕ) → InLog (wrap (wrap (bit_and a 63 * 2 ^ 4) + 0x4200_0000))
+pub in_log : (a : ℕ) → InLog (wrap (wrap (bit_and a 63 * 2 ^ 4) + 0x4200_0000))
 in_log a =
     let e : bit_and a 63 ≡ a % 2 ^ 6 = and_mask a 6 in
     record { entry = bit_and a 63; below = omega (arith, e); is = omega (arith, e) }
