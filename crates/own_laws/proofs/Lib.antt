@@ -14,3 +14,4 @@ pub mod Gets
 pub mod Progress
 pub mod OneCall
 pub mod LogChanges
+pub mod LogRows
