@@ -15,3 +15,4 @@ pub mod Progress
 pub mod OneCall
 pub mod LogChanges
 pub mod LogRows
+pub mod Passage

@@ -15,7 +15,7 @@ use Rattle.own_laws.proofs.Reached.{none_some}
 use Rattle.own_laws.proofs.Side.{Side, side_of}
 use Rattle.own_laws.proofs.StubRows.{left}
 
-program_stub : {A : Type 0} → Program ≡ Stub → A
+pub program_stub : {A : Type 0} → Program ≡ Stub → A
 program_stub {A} e = absurd (no e)
   where
     no : Program ≡ Stub → ⊥

@@ -41,6 +41,11 @@ pub record Appends (old new : Memory) : Type 0 where
   pub below : log_tail new < 2 ^ 64
   pub pairs : (i : ℕ) → log_head old ≤ i → i < log_tail old → logged new i ≡ logged old i
 
+-- a log's head isn't after its tail, and both are numbers of 64 bits
+pub record IsLog (log : Memory) : Type 0 where
+  pub order : log_head log ≤ log_tail log
+  pub below : log_tail log < 2 ^ 64
+
 -- the oldest pair of a log is this one
 pub record IsOldest (log : Memory) (key count : ℕ) : Type 0 where
   pub some : log_head log < log_tail log
@@ -84,10 +89,10 @@ pub record IsPassage (w : World) (gate leave : Run) : Type 0 where
   pub restarts : leave.restarts ≡ restarts_after leave.asked gate.restarts
   pub log : Outcome gate.at_gate (key_of (plan_of w.image.layout gate.at_gate)) (reg gate.at_gate.registers 12) gate.shared leave.asked leave.shared
 
--- an own move meets a gate of the program, and in the moves behind it the own hart comes to leave the stub
+-- an own move meets a gate of the program, and in the moves behind it the own hart comes to leave the stub. The key is a number of 64 bits where offsets are below 2^57
 abbrev pub StubKeepsLog : Type 0
 StubKeepsLog =
     (w : World) → Accepted w → (ms : Moves) (x : Answer) (on : Moves) →
-    let program = run w ms in let gate = step w program (O, x) in
-    program.view ≡ Program → log_head gate.shared ≤ log_tail gate.shared → log_tail gate.shared < 2 ^ 64 →
-    Passing w gate on → IsLeaving (run_from w gate on) → IsPassage w gate (run_from w gate on)
+    let program = run w ms in let gate = step w program (O, x) in let leave = run_from w gate on in
+    program.view ≡ Program → key_of (plan_of w.image.layout program.own) < 2 ^ 64 →
+    IsLog program.shared → Passing w gate on → IsLeaving leave → IsPassage w gate leave

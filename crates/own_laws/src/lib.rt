@@ -17,10 +17,14 @@ pub fn preserved()
     ensures own_follows { OwnFollows }
 {}
 
-ghost use Rattle.own_laws.specs.StubLaws.{StubIsOneCall};
+ghost use Rattle.own_laws.specs.StubLaws.{StubIsOneCall, StubKeepsLog};
 
-/// Behind the call of the stub the own hart has done the call that it met at its gate, and nothing
-/// else: all registers but x10 are those at the gate.
+/// Behind the stub's call the own hart has done the call that it met at its gate, and nothing else:
+/// all registers but x10 are those at the gate. A call without key leaves the hint log; a keyed one
+/// takes the oldest pair where that is the call's, and else empties the log, saves site and registers
+/// in the box, and restarts the shadow once before it. Other moves may come between, where the
+/// shadow's only append to the log.
 pub fn stub_is_one_call()
     ensures one_call { StubIsOneCall }
+    ensures log { StubKeepsLog }
 {}

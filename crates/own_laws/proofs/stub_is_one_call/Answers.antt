@@ -1,5 +1,9 @@
 use Rattle.own_laws.proofs.OneCall.{leaves_with_one_call}
+use Rattle.own_laws.proofs.Passage.{stub_keeps_log}
 use Rattle.own_laws.proofs.stub_is_one_call.Goals as goal
 
-pub returns : goal.returns
-returns c = record { one_call = leaves_with_one_call }
+pub returns-clause-one_call : goal.returns-clause-one_call
+returns-clause-one_call c = leaves_with_one_call
+
+pub returns-clause-log : goal.returns-clause-log
+returns-clause-log c = stub_keeps_log

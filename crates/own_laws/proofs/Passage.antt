@@ -1,0 +1,369 @@
+-- From the gate to the word that leaves the stub: each move keeps what the rows say of the hint log.
+use Rattle.std.proofs.Common.{◌≡◌, ℕ, zero, suc, ◌+◌, ◌-◌, ◌*◌, ◌/◌, ◌%◌, ◌^◌, ◌≤◌, ◌<◌, Bool, true, false, not, ◌&&◌, List, [], ◌∷◌, length, map, nat_le, nat_lt, slice_get, Option, Some, None, refl, ◌∙◌, ap, sym, subst, ◌==◌, arith, eqb→eq, is_some, drop, ap₂}
+use Rattle.std.specs.Option.{option_map}
+use Rattle.std.proofs.lemmas.Option.{slice_get_within}
+use Rattle.std.proofs.lemmas.Bool.Decides.{nat_tests}
+use Rattle.spec_base.specs.Layout.{is_lawful, image_limit}
+use Rattle.spec_base.specs.declared.layout.Version.{Version}
+use Rattle.spec_base.specs.declared.layout.Version.TheVariants.{One, Two}
+use Rattle.spec_base.specs.declared.machine.View.TheVariants.{Plain, Program, Stub}
+use Rattle.spec_base.specs.declared.note.ShadowState.{ShadowState}
+use Rattle.spec_base.specs.declared.note.ShadowState.TheVariants.{Stopped}
+use Rattle.spec_base.specs.declared.note.Note.{Note}
+use Rattle.spec_base.specs.declared.note.Note.TheVariants as note
+use Rattle.spec_base.specs.declared.note.Move.{Move}
+use Rattle.spec_base.specs.declared.note.Move.TheVariants.{O, S, T, D}
+use Rattle.spec_base.specs.declared.spot.BlockSpot.{BlockSpot}
+use Rattle.spec_base.specs.declared.spot.ReadSpot.{ReadSpot}
+use Rattle.rv_decode.specs.declared.instr.Instr.{Instr}
+use Rattle.rv_model.specs.Memory.{Memory}
+use Rattle.rv_model.specs.Rights.{data_rights}
+use Rattle.rv_model.specs.Registers.{reg}
+use Rattle.rv_model.specs.Effect.{Effect, Next, Stored, Trapped, Called, Gated, effect, fetched}
+use Rattle.program_model.specs.Calls.{CallPlan, Set, Look, Read, Write, Exit, key_of}
+use Rattle.program_model.specs.Cache.{Gathered, gather, blocks_of, in_flight}
+use Rattle.program_model.specs.PlainRun.{State, plan_of, text_of, performed}
+use Rattle.code_model.specs.Log.{log_head, log_tail}
+use Rattle.code_model.specs.Patch.{patched_instr}
+use Rattle.run_model.specs.Run.{World, Run, RunEnd, Answer, Usual, Took, Failed, Lost}
+use Rattle.run_model.specs.OwnMoves.{program_after, program_at, program_step, call_step, read_on, look_done, write_step, write_done, taken_in, own_step}
+use Rattle.run_model.specs.ShadowMoves.{shadow_in, shadow_step}
+use Rattle.run_model.specs.Moves.{Moves, step, step_unless, begun, run, run_from, fetch_step, fetch_of, fetch_ends, fetch_failed, landed_with, cached_too, shadow_while}
+use Rattle.run_model.specs.OwnLaws.{Accepted, IsShadowMove}
+use Rattle.own_laws.specs.StubLaws.{IsLeaving, leave_word, Appends, IsOldest, Outcome, keyless, takes, empties, without_oldest, Passing, restarts_after, IsPassage, StubKeepsLog}
+use Rattle.own_laws.proofs.Alike.{gated, effect-patched, effect-no_gate, fetched-map, NoGate}
+use Rattle.own_laws.proofs.InvisibleShadow.{shadow_move-keeps}
+use Rattle.own_laws.proofs.LogChanges.{Appends-again, Appends-same}
+use Rattle.own_laws.proofs.LogRows.{Phase, fresh, keyed, headed, judging, found, matching, oldest, settled, missed, halted, headless, emptied, boxing, is_asked, Fact, LogRow, r1, r25, r71, Onward, to_row, to_restarted, to_call, log_word_goes}
+use Rattle.own_laws.proofs.OneCall.{program_stub}
+use Rattle.own_laws.proofs.OwnLaws.{own_side}
+use Rattle.own_laws.proofs.OwnSide.{OwnSide, in_program, in_stub, at_call, waits, called, over, plan, program_side, waiting_side, called_side, placed}
+use Rattle.own_laws.proofs.Reached.{Reached, reached-fits, none_some, false_true}
+use Rattle.own_laws.proofs.Side.{Side, side_of, with_side, Tally, Kept}
+use Rattle.own_laws.proofs.StubWords.{three, three-own, stub_side, restarted_tally}
+
+-- ---- the gate
+
+-- the own hart has met a gate in a plain state that was reached
+record Entered (w : World) (program gate : Run) : Type 0 where
+  tally : Tally
+  page : Memory
+  side : side_of gate ≡ stub_side program.own tally 1 program.own.registers page
+  shared : gate.shared ≡ program.shared
+  fits : (i : ℕ) → program.own.registers i < 2 ^ 64
+  place : program.own.pc < 2 ^ 64
+  asked : tally.asked ≡ false
+
+-- what is fetched stands in the text
+fetched-below : {A : Type 0} (code : List A) (start pc : ℕ) (i : A) → fetched code start pc ≡ Some i → pc < start + 4 * length code
+fetched-below code start pc i e = by_test (nat_le start pc && (pc % 4 == 0)) e
+  where
+    by_test : (b : Bool) → elim b [ true ↦ slice_get code ((pc - start) / 4) | false ↦ None ] ≡ Some i → pc < start + 4 * length code
+    by_test true e = omega (arith, slice_get_within code ((pc - start) / 4) i e)
+    by_test false e = none_some e
+
+length-map : {A B : Type 0} (f : A → B) (xs : List A) → length (map f xs) ≡ length xs
+length-map f [] = refl
+length-map f (x ∷ xs) = ap suc (length-map f xs)
+
+limit-small : (v : Version) → image_limit v < 2 ^ 64
+limit-small One = omega arith
+limit-small Two = omega arith
+
+-- the pc of an instruction is below 2^64
+place-small : (w : World) → Accepted w → (pc : ℕ) (i : Instr) → fetched (text_of w.image) w.image.layout.text_start pc ≡ Some i → pc < 2 ^ 64
+place-small w a pc i e =
+    let inside : pc < w.image.layout.text_start + 4 * length (text_of w.image) = fetched-below (text_of w.image) w.image.layout.text_start pc i e in
+    let words : length (text_of w.image) ≡ length w.image.words = length-map _ w.image.words in
+    let end : w.image.layout.text_end ≤ image_limit w.image.layout.version = grind (arith, nat_tests, a.lawful) in
+    omega (arith, inside, words, a.text, end, limit-small w.image.layout.version)
+
+module _ (w : World) (accepted : Accepted w) where
+  module _ (base : Run) (t : Tally) (site : ℕ) (gate s : State) (page : Memory) (h : Reached w t s) where
+    abbrev here : Run
+    here = with_side base (program_side s site gate page t)
+
+    after_effect-enters : (e : Effect) → s.pc < 2 ^ 64 → (program_after here (gated e)).view ≡ Stub → Entered w here (program_after here (gated e))
+    after_effect-enters (Next rs pc) p v = program_stub v
+    after_effect-enters (Stored a width n) p v = program_stub v
+    after_effect-enters (Trapped cause) p v = program_stub v
+    after_effect-enters Called p v = record { tally = record t { asked = false }; page = page; side = refl; shared = refl; fits = reached-fits w accepted t s h; place = p; asked = refl }
+    after_effect-enters (Gated i) p v = record { tally = record t { asked = false }; page = page; side = refl; shared = refl; fits = reached-fits w accepted t s h; place = p; asked = refl }
+
+    word-enters : (o : Option Instr) → fetched (text_of w.image) w.image.layout.text_start s.pc ≡ o → (program_at w here (option_map patched_instr o)).view ≡ Stub
+        → Entered w here (program_at w here (option_map patched_instr o))
+    word-enters None e v = program_stub v
+    word-enters (Some i) e v =
+        subst (λ e. (program_after here e).view ≡ Stub → Entered w here (program_after here e)) (sym (effect-patched (data_rights w.image.layout) s.memory s.registers s.pc i))
+        (after_effect-enters (effect Plain (data_rights w.image.layout) s.memory s.registers s.pc i) (place-small w accepted s.pc i e)) v
+
+    program-enters : (program_step w here).view ≡ Stub → Entered w here (program_step w here)
+    program-enters v =
+        subst (λ o. (program_at w here o).view ≡ Stub → Entered w here (program_at w here o)) (sym (fetched-map patched_instr (text_of w.image) w.image.layout.text_start s.pc))
+        (word-enters (fetched (text_of w.image) w.image.layout.text_start s.pc) refl) v
+
+  own-enters : (x : Answer) (r : Run) → OwnSide w (side_of r) → r.view ≡ Program → r.end ≡ None → (own_step w x r).view ≡ Stub → Entered w r (own_step w x r)
+  own-enters x r (in_program t site gate s page h f is) p z v =
+      placed w (λ r. (own_step w x r).view ≡ Stub → Entered w r (own_step w x r)) r _ is (program-enters r t site gate s page h) v
+  own-enters x r (in_stub t q k a b c page g row most is) p z v = program_stub (sym p ∙ ap (λ p. p.view) is)
+  own-enters x r (at_call t q page g is) p z v = program_stub (sym p ∙ ap (λ p. p.view) is)
+  own-enters x r (waits t q page g is) p z v = program_stub (sym p ∙ ap (λ p. p.view) is)
+  own-enters x r (called t q s k page h f y n is) p z v = program_stub (sym p ∙ ap (λ p. p.view) is)
+  own-enters x r (over s e h o) p z v = none_some (sym z ∙ o.ended)
+
+  step-enters : (x : Answer) (r : Run) (e : Option RunEnd) → r.end ≡ e → OwnSide w (side_of r) → r.view ≡ Program → (step_unless e w r (O, x)).view ≡ Stub → Entered w r (step_unless e w r (O, x))
+  step-enters x r (Some e) z h p v = program_stub (sym p ∙ v)
+  step-enters x r None z h p v =
+      let y = own-enters x (begun r) h p z v in
+      record { tally = y.tally; page = y.page; side = y.side; shared = y.shared; fits = y.fits; place = y.place; asked = y.asked }
+
+-- ---- what a move of the shadow leaves of what is known
+
+Outcome-grows : (q : State) (key count : ℕ) (before : Memory) (asked : Bool) (m m' : Memory) → Outcome q key count before asked m → Appends m m' → Outcome q key count before asked m'
+Outcome-grows q key count before _ m m' (keyless k f) g = keyless k (Appends-again before m m' f g)
+Outcome-grows q key count before _ m m' (takes log k j o f) g = takes log k j o (Appends-again (without_oldest log) m m' f g)
+Outcome-grows q key count before _ m m' (empties log boxed k j n e b f) g = empties log boxed k j n e b (Appends-again boxed m m' f g)
+
+-- a stopped shadow leaves all, and another one appends
+Fact-grows : (q : State) (key count : ℕ) (before : Memory) (p : Phase) (m m' : Memory) (s s' : ShadowState) → Fact q key count before p m s → Appends m m'
+    → (s ≡ Stopped → (m' ≡ m) × (s' ≡ Stopped)) → Fact q key count before p m' s'
+Fact-grows q key count before fresh m m' s s' f g h = Appends-again before m m' f g
+Fact-grows q key count before keyed m m' s s' (k, f) g h = (k, Appends-again before m m' f g)
+Fact-grows q key count before (headed head) m m' s s' (k, f, e) g h = (k, Appends-again before m m' f g, e ∙ sym g.head)
+Fact-grows q key count before (judging log) m m' s s' (j, f) g h = (j, Appends-again log m m' f g)
+Fact-grows q key count before (found log) m m' s s' (j, f, l) g h = (j, Appends-again log m m' f g, l)
+Fact-grows q key count before (matching log) m m' s s' (j, f, l, k) g h = (j, Appends-again log m m' f g, l, k)
+Fact-grows q key count before (oldest log) m m' s s' (j, f, o) g h = (j, Appends-again log m m' f g, o)
+Fact-grows q key count before (settled asked) m m' s s' f g h = Outcome-grows q key count before asked m m' f g
+Fact-grows q key count before (missed log) m m' s s' f g h = f
+Fact-grows q key count before (halted log) m m' s s' (f, e) g h = (f, (h e).1)
+Fact-grows q key count before (headless log) m m' s s' (f, e, z) g h = subst (λ n. Fact q key count before (headless log) n s') (sym (h e).0) (f, (h e).1, z)
+Fact-grows q key count before (emptied log) m m' s s' (f, e, z) g h = subst (λ n. Fact q key count before (emptied log) n s') (sym (h e).0) (f, (h e).1, z)
+Fact-grows q key count before (boxing log j) m m' s s' (f, e, z, b) g h = subst (λ n. Fact q key count before (boxing log j) n s') (sym (h e).0) (f, (h e).1, z, b)
+
+-- a move of a stopped shadow does nothing
+abbrev Stays : Run → Run → Type 0
+Stays r r' = (r'.shared ≡ r.shared) × (r'.shadow.state ≡ Stopped)
+
+stopped-stays : (w : World) (r : Run) (m : Move) (x : Answer) → IsShadowMove m → r.shadow.state ≡ Stopped → Stays r (step w r (m, x))
+stopped-stays w r m x h e = by_end r.end m h
+  where
+    shadow-stays : Stays r (shadow_step w x (begun r))
+    shadow-stays = subst (λ s. Stays r (shadow_in s w x (begun r))) (sym e) (refl, e)
+
+    by_stall : (b : Bool) → Stays r (shadow_while b w x (begun r))
+    by_stall true = shadow-stays
+    by_stall false = (refl, e)
+
+    by_end : (end : Option RunEnd) (m : Move) → IsShadowMove m → Stays r (step_unless end w r (m, x))
+    by_end (Some y) m h = (refl, e)
+    by_end None S h = shadow-stays
+    by_end None T h = by_stall r.stalled
+    by_end None O h = absurd h
+    by_end None D h = absurd h
+
+-- ---- the passage
+
+passing-view : (w : World) (ms : Moves) (r : Run) → Passing w r ms → r.view ≡ Stub
+passing-view w [] r h = h
+passing-view w (m ∷ ms) r h = h.0
+
+-- the counts since the gate: so many instructions are done, and so many restarts were made
+record Counts (d n : ℕ) (b : Bool) (t : Tally) : Type 0 where
+  done : t.done ≡ d
+  restarts : t.restarts ≡ restarts_after b n
+  asked : t.asked ≡ b
+
+-- the call that the program makes in the state q is at a word of the stub, at its call, behind it, or the run is over
+data Passage (w : World) (q : State) (key count : ℕ) (before : Memory) (done restarts : ℕ) (r : Run) : Type 0 where
+  at_word : (t : Tally) (p : Phase) (k a b c : ℕ) (page : Memory) → LogRow q key p k a b c page → Fact q key count before p r.shared r.shadow.state → (k == 27) ≡ false
+      → Counts done restarts (is_asked p) t → side_of r ≡ stub_side q t k (three q.registers a b c) page → Passage w q key count before done restarts r
+  on_call : (t : Tally) (asked stalled : Bool) (page : Memory) → Outcome q key count before asked r.shared → Counts done restarts asked t
+      → side_of r ≡ record (stub_side q t 26 q.registers page) { stalled = stalled } → Passage w q key count before done restarts r
+  behind : (t : Tally) (asked : Bool) (s : State) (page : Memory) → Outcome q key count before asked r.shared → Counts (done + 1) restarts asked t
+      → side_of r ≡ called_side q s t page → Passage w q key count before done restarts r
+  ended : is_some r.end ≡ true → Passage w q key count before done restarts r
+
+module _ (w : World) (q : State) (fits : (i : ℕ) → q.registers i < 2 ^ 64) (place : q.pc < 2 ^ 64) (small_key : key_of (plan w q) < 2 ^ 64)
+    (before : Memory) (order : log_head before ≤ log_tail before) (done restarts : ℕ) where
+  abbrev key : ℕ
+  key = key_of (plan w q)
+
+  abbrev count : ℕ
+  count = q.registers 12
+
+  abbrev Passes : Run → Type 0
+  Passes r = Passage w q key count before done restarts r
+
+  -- ---- the call
+
+  module _ (base : Run) (t : Tally) (asked : Bool) (page : Memory) (o : Outcome q key count before asked base.shared) (n : Counts done restarts asked t) where
+    abbrev the_call : Run
+    the_call = with_side base (stub_side q t 26 q.registers page)
+
+    -- one more instruction is done
+    one_more : (whole : Bool) → Counts (done + 1) restarts asked (record t { done = t.done + 1; own = t.own + 1; whole = whole; gathered = 0 })
+    one_more whole = record { done = ap (λ d. d + 1) n.done; restarts = n.restarts; asked = n.asked }
+
+    -- a call that is completed, whose put took k bytes
+    completed : (whole : Bool) (k : ℕ) (c : CallPlan) (next : Run) → next.shared ≡ base.shared
+        → side_of next ≡ called_side q (performed w.files k c q) (record t { done = t.done + 1; own = t.own + 1; whole = whole; gathered = 0 }) page → Passes next
+    completed whole k c next m is = behind _ asked (performed w.files k c q) page (subst (λ m. Outcome q key count before asked m) (sym m) o) (one_more whole) is
+
+    look-passes : (x : Answer) (name : List ℕ) → Passes (look_done w x the_call name)
+    look-passes Failed name = ended refl
+    look-passes Usual name = completed t.whole 0 (Look name) _ refl refl
+    look-passes (Took k) name = completed t.whole 0 (Look name) _ refl refl
+    look-passes Lost name = completed t.whole 0 (Look name) _ refl refl
+
+    read-passes : (b : Bool) (d : ℕ) (spot : ReadSpot) (a : ℕ) (had : Gathered) → Passes (read_on b w d spot a had the_call)
+    read-passes true d spot a had = on_call (record t { gathered = had.had }) asked true page o (record { done = n.done; restarts = n.restarts; asked = n.asked }) refl
+    read-passes false d spot a had = completed t.whole 0 (Read d spot a) _ refl refl
+
+    put-passes : (to_out : Bool) (a n k : ℕ) → Passes (write_done w k to_out a n the_call)
+    put-passes true a n k = completed _ k (Write true a n) _ refl refl
+    put-passes false a n k = completed _ k (Write false a n) _ refl refl
+
+    write-passes : (x : Answer) (to_out : Bool) (a n : ℕ) → Passes (write_step w x the_call to_out a n)
+    write-passes Failed to_out a n = ended refl
+    write-passes Usual to_out a n = put-passes to_out a n (taken_in Usual n)
+    write-passes (Took k) to_out a n = put-passes to_out a n (taken_in (Took k) n)
+    write-passes Lost to_out a n = put-passes to_out a n (taken_in Lost n)
+
+    call-passes : (x : Answer) (c : CallPlan) → Passes (call_step w x the_call c)
+    call-passes x (Set files answer) = completed t.whole 0 (Set files answer) _ refl refl
+    call-passes x (Look name) = look-passes x name
+    call-passes x (Read d spot a) = let had : Gathered = gather base.cache t.gathered (drop t.gathered (blocks_of spot)) in read-passes had.waits d spot a had
+    call-passes x (Write to_out a n) = write-passes x to_out a n
+    call-passes x (Exit code) = ended refl
+
+  -- ---- an own move
+
+  onward-passes : (t : Tally) (p : Phase) (next : Run) → Counts done restarts (is_asked p) t → Onward q key count before t p next → Passes next
+  onward-passes t p next n (to_row p' l a b c page row f same u is) = at_word t p' l a b c page row f u (subst (λ asked. Counts done restarts asked t) (sym same) n) is
+  onward-passes t p next n (to_restarted c page s o first is) =
+      let same : t.restarts ≡ restarts = n.restarts ∙ ap (λ asked. restarts_after asked restarts) first in
+      at_word (restarted_tally q t) (settled true) 71 _ _ c page (r71 s) o refl (record { done = n.done; restarts = ap (λ m. m + 1) same; asked = refl }) is
+  onward-passes t p next n (to_call asked page o same is) = on_call t asked false page o (subst (λ asked. Counts done restarts asked t) (sym same) n) is
+
+  own-passes : (x : Answer) (r : Run) → r.end ≡ None → Passes r → (own_step w x r).view ≡ Stub → Passes (own_step w x r)
+  own-passes x r z (at_word t p k a b c page row f u n is) v =
+      placed w (λ (r : Run). Fact q key count before p r.shared r.shadow.state → Passes (own_step w x r)) r _ is
+      (λ f. onward-passes t p _ n (log_word_goes w x q t fits place small_key before order r p k a b c page row f)) f
+  own-passes x r z (on_call t asked true page o n is) v = placed w (λ (r : Run). Outcome q key count before asked r.shared → Passes (own_step w x r)) r _ is (λ o. on_call t asked true page o n refl) o
+  own-passes x r z (on_call t asked false page o n is) v =
+      placed w (λ (r : Run). Outcome q key count before asked r.shared → Passes (own_step w x r)) r _ is (λ o. call-passes r t asked page o n x (plan w q)) o
+  own-passes x r z (behind t asked s page o n is) v =
+      placed w (λ (r : Run). (own_step w x r).view ≡ Stub → Passes (own_step w x r)) r _ is (λ v. program_stub v) v
+  own-passes x r z (ended e) v = false_true (ap is_some (sym z) ∙ e)
+
+  -- ---- a fetch
+
+  abbrev more : Tally → Tally
+  more t = record t { gathered = t.gathered + 1 }
+
+  abbrev awake : Side → Side
+  awake p = record p { stalled = false; tally = more p.tally }
+
+  more-counts : (d : ℕ) (asked : Bool) (t : Tally) → Counts d restarts asked t → Counts d restarts asked (more t)
+  more-counts d asked t n = record { done = n.done; restarts = n.restarts; asked = n.asked }
+
+  wakes-passes : (r : Run) (notes : List Note) (spot : BlockSpot) → Passes r → Passes (landed_with (Some spot) r notes)
+  wakes-passes r notes spot (at_word t p k a b c page row f u n is) = at_word (more t) p k a b c page row f u (more-counts done (is_asked p) t n) (ap awake is)
+  wakes-passes r notes spot (on_call t asked stalled page o n is) = on_call (more t) asked false page o (more-counts done asked t n) (ap awake is)
+  wakes-passes r notes spot (behind t asked s page o n is) = behind (more t) asked s page o (more-counts (done + 1) asked t n) (ap awake is)
+  wakes-passes r notes spot (ended e) = ended e
+
+  -- a run with the same own side, link and state of the shadow
+  same-passes : (r r' : Run) → side_of r' ≡ side_of r → r'.shared ≡ r.shared → r'.shadow.state ≡ r.shadow.state → Passes r → Passes r'
+  same-passes r r' h m s (at_word t p k a b c page row f u n is) =
+      at_word t p k a b c page row (subst (λ x. Fact q key count before p x r'.shadow.state) (sym m) (subst (λ x. Fact q key count before p r.shared x) (sym s) f)) u n (h ∙ is)
+  same-passes r r' h m s (on_call t asked stalled page o n is) = on_call t asked stalled page (subst (λ x. Outcome q key count before asked x) (sym m) o) n (h ∙ is)
+  same-passes r r' h m s (behind t asked s' page o n is) = behind t asked s' page (subst (λ x. Outcome q key count before asked x) (sym m) o) n (h ∙ is)
+  same-passes r r' h m s (ended e) = ended (ap (λ p. is_some p.end) h ∙ e)
+
+  landed-passes : (o : Option BlockSpot) (r : Run) (notes : List Note) → Passes r → Passes (landed_with o r notes)
+  landed-passes (Some spot) r notes h = wakes-passes r notes spot h
+  landed-passes None r notes h = same-passes r _ refl refl refl h
+
+  failed-passes : (o : Option BlockSpot) (r : Run) (spot : BlockSpot) → Passes r → Passes (fetch_failed o r spot)
+  failed-passes (Some demanded) r spot h = ended refl
+  failed-passes None r spot h = same-passes r _ refl refl refl h
+
+  ends-passes : (x : Answer) (r : Run) (spot : BlockSpot) → Passes r → Passes (fetch_ends w x r spot)
+  ends-passes Failed r spot h = failed-passes r.cache.demanded r spot h
+  ends-passes Lost r spot h = landed-passes r.cache.demanded r (note.Lost spot ∷ []) h
+  ends-passes Usual r spot h = same-passes (landed_with r.cache.demanded r (note.Fetch spot ∷ [])) _ refl refl refl (landed-passes r.cache.demanded r (note.Fetch spot ∷ []) h)
+  ends-passes (Took k) r spot h = same-passes (landed_with r.cache.demanded r (note.Fetch spot ∷ [])) _ refl refl refl (landed-passes r.cache.demanded r (note.Fetch spot ∷ []) h)
+
+  fetch-passes : (o : Option BlockSpot) (x : Answer) (r : Run) → Passes r → Passes (fetch_of o w x r)
+  fetch-passes None x r h = h
+  fetch-passes (Some spot) x r h = ends-passes x r spot h
+
+  -- ---- a move of the shadow
+
+  shadow-passes : (m : Move) (x : Answer) (r : Run) → IsShadowMove m → Appends r.shared (step w r (m, x)).shared → Passes r → Passes (step w r (m, x))
+  shadow-passes m x r s g h = by_stage h
+    where
+      next : Run
+      next = step w r (m, x)
+
+      same : side_of next ≡ side_of r
+      same = ap (λ (k : Kept). k.side) (shadow_move-keeps w r m x s)
+
+      by_stage : Passes r → Passes next
+      by_stage (at_word t p k a b c page row f u n is) =
+          at_word t p k a b c page row (Fact-grows q key count before p r.shared next.shared r.shadow.state next.shadow.state f g (stopped-stays w r m x s)) u n (same ∙ is)
+      by_stage (on_call t asked stalled page o n is) = on_call t asked stalled page (Outcome-grows q key count before asked r.shared next.shared o g) n (same ∙ is)
+      by_stage (behind t asked s' page o n is) = behind t asked s' page (Outcome-grows q key count before asked r.shared next.shared o g) n (same ∙ is)
+      by_stage (ended e) = ended (ap (λ p. is_some p.end) same ∙ e)
+
+  -- ---- each move
+
+  move-passes : (m : Move) (x : Answer) (r : Run) (e : Option RunEnd) → r.end ≡ e → Passes r → (step_unless e w r (m, x)).view ≡ Stub
+      → (IsShadowMove m → Appends r.shared (step w r (m, x)).shared) → Passes (step_unless e w r (m, x))
+  move-passes m x r (Some e) z h v g = same-passes r _ refl refl refl h
+  move-passes O x r None z h v g = own-passes x (begun r) z (same-passes r (begun r) refl refl refl h) v
+  move-passes D x r None z h v g = fetch-passes (in_flight r.cache) x (begun r) (same-passes r (begun r) refl refl refl h)
+  move-passes S x r None z h v g = subst (λ e. Passes (step_unless e w r (S, x))) z (shadow-passes S x r tt (g tt) h)
+  move-passes T x r None z h v g = subst (λ e. Passes (step_unless e w r (T, x))) z (shadow-passes T x r tt (g tt) h)
+
+  run-passes : (ms : Moves) (r : Run) → Passes r → Passing w r ms → Passes (run_from w r ms)
+  unfolding run_from
+  run-passes [] r h p = h
+  run-passes (m ∷ ms) r h p = run-passes ms (step w r m) (move-passes m.0 m.1 r r.end refl h (passing-view w ms (step w r m) p.2) p.1) p.2
+
+  -- ---- the word that leaves the stub
+
+  passage-ends : (gate leave : Run) → gate.at_gate ≡ q → gate.shared ≡ before → gate.own_done ≡ done → gate.restarts ≡ restarts → Passes leave → IsLeaving leave → IsPassage w gate leave
+  passage-ends gate leave g m d n (at_word t p k a b c page row f u count is) l =
+      let last : k ≡ 27 = omega (arith, ap (λ p. p.own.pc) is, l.word) in
+      false_true (sym u ∙ ap (λ k. k == 27) last)
+  passage-ends gate leave g m d n (on_call t asked stalled page o count is) l =
+      absurd (omega (arith, ap (λ p. p.own.pc) is, l.word))
+  passage-ends gate leave g m d n (ended e) l = false_true (ap is_some (sym l.goes_on) ∙ e)
+  passage-ends gate leave g m d n (behind t asked s page o c is) l =
+      let met : leave.at_gate ≡ q = ap (λ p. p.gate) is in
+      let was_asked : leave.asked ≡ asked = ap (λ p. p.tally.asked) is ∙ c.asked in
+      record {
+        same_call = met ∙ sym g;
+        one_done = ap (λ p. p.tally.done) is ∙ c.done ∙ ap (λ d. d + 1) (sym d);
+        restarts = ap (λ p. p.tally.restarts) is ∙ c.restarts ∙ ap₂ (λ asked n. restarts_after asked n) (sym was_asked) (sym n);
+        log = subst (λ q. Outcome q (key_of (plan w q)) (reg q.registers 12) gate.shared leave.asked leave.shared) (sym g)
+            (subst (λ m. Outcome q key count m leave.asked leave.shared) (sym m) (subst (λ asked. Outcome q key count before asked leave.shared) (sym was_asked) o));
+      }
+
+pub stub_keeps_log : StubKeepsLog
+stub_keeps_log w a ms x on p small log passing leaving =
+    let program : Run = run w ms in
+    let gate : Run = step w program (O, x) in
+    let y : Entered w program gate = step-enters w a x program program.end refl (own_side w a ms) p (passing-view w on gate passing) in
+    let q : State = program.own in
+    let order' : log_head gate.shared ≤ log_tail gate.shared = subst (λ m. log_head m ≤ log_tail m) (sym y.shared) log.order in
+    let below' : log_tail gate.shared < 2 ^ 64 = subst (λ m. log_tail m < 2 ^ 64) (sym y.shared) log.below in
+    let start : Passage w q (key_of (plan w q)) (q.registers 12) gate.shared gate.own_done gate.restarts gate =
+        at_word y.tally fresh 1 _ _ _ y.page r1 (Appends-same gate.shared below') refl
+        (record { done = sym (ap (λ p. p.tally.done) y.side); restarts = sym (ap (λ p. p.tally.restarts) y.side); asked = y.asked })
+        (y.side ∙ ap (λ rs. stub_side q y.tally 1 rs y.page) (sym (three-own q.registers))) in
+    passage-ends w q y.fits y.place small gate.shared order' gate.own_done gate.restarts gate (run_from w gate on) (ap (λ p. p.gate) y.side) refl refl refl
+    (run-passes w q y.fits y.place small gate.shared order' gate.own_done gate.restarts on gate start passing) leaving
