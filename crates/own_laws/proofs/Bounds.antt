@@ -1,5 +1,5 @@
 -- In every plain state the registers are below 2^64 and the bytes below 256.
-use Rattle.std.proofs.Common.{◌≡◌, ℕ, zero, suc, ◌+◌, ◌-◌, ◌*◌, ◌/◌, ◌%◌, ◌^◌, ◌≤◌, ◌<◌, ◌⊎◌, inl, inr, Bool, true, false, ℤ, pos, negsuc, List, [], ◌∷◌, length, take, drop, get_or, ◌==◌, Option, Some, None, refl, sym, subst, arith, lit<}
+use Rattle.std.proofs.Common.{◌≡◌, ℕ, zero, suc, ◌+◌, ◌-◌, ◌%◌, ◌^◌, ◌≤◌, ◌<◌, ◌⊎◌, inl, inr, Bool, true, false, pos, List, [], length, take, drop, get_or, ◌==◌, Option, Some, None, refl, sym, subst, arith, lit<}
 use Rattle.std.specs.Prelude.{⊤, unwrap_or}
 use Rattle.std.specs.Option.{option_and_then}
 use Rattle.std.proofs.lemmas.List.{get_or_past}
@@ -8,12 +8,11 @@ use Rattle.std.proofs.lemmas.Bool.{cases_lt}
 use Rattle.spec_base.specs.Word.{byte_of, word_of_int}
 use Rattle.spec_base.specs.Files.{Name, Files}
 use Rattle.spec_base.specs.declared.spot.ReadSpot.{ReadSpot}
-use Rattle.spec_base.specs.declared.machine.Trap.{Trap}
 use Rattle.spec_base.specs.declared.machine.View.TheVariants.{Plain}
 use Rattle.rv_decode.specs.declared.instr.Instr.{Instr}
 use Rattle.rv_decode.specs.declared.instr.Instr.TheVariants.{Lui, Auipc, Jal, Jalr, Branch, Load, Store, OpImm, OpImmW, Op, OpW, Fence}
 use Rattle.rv_decode.specs.declared.instr.LoadOp.{LoadOp}
-use Rattle.rv_model.specs.Memory.{Memory, patched, written, stored, loaded, is_within}
+use Rattle.rv_model.specs.Memory.{Memory, patched, loaded, is_within}
 use Rattle.rv_model.specs.Registers.{Registers, reg, with_reg}
 use Rattle.rv_model.specs.Rights.{Rights, data_rights}
 use Rattle.rv_model.specs.Arithmetic.{is_taken, load_width, extended}

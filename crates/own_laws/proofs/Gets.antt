@@ -1,7 +1,7 @@
 -- What a move brings: an instruction is completed, the run ends, fewer own moves are left; or the own side is left as it is.
-use Rattle.std.proofs.Common.{◌≡◌, ℕ, zero, suc, ◌+◌, ◌-◌, ◌*◌, ◌/◌, ◌≤◌, ◌<◌, Bool, true, false, not, List, [], ◌∷◌, length, drop, Option, Some, None, refl, ◌∙◌, ap, sym, subst, ◌==◌, arith, is_some, length-drop}
+use Rattle.std.proofs.Common.{◌≡◌, ℕ, ◌+◌, ◌-◌, ◌*◌, ◌≤◌, ◌<◌, Bool, true, false, List, [], ◌∷◌, length, drop, Option, Some, None, refl, ◌∙◌, ap, sym, subst, arith, is_some, length-drop}
 use Rattle.std.specs.Option.{option_map}
-use Rattle.spec_base.specs.declared.machine.View.TheVariants.{Plain, Program, Stub}
+use Rattle.spec_base.specs.declared.machine.View.TheVariants.{Plain}
 use Rattle.spec_base.specs.declared.note.Note.{Note}
 use Rattle.spec_base.specs.declared.note.Note.TheVariants as note
 use Rattle.spec_base.specs.declared.note.Move.{Move}
@@ -13,19 +13,19 @@ use Rattle.rv_model.specs.Memory.{Memory}
 use Rattle.rv_model.specs.Rights.{data_rights}
 use Rattle.rv_model.specs.Effect.{Effect, Next, Stored, Trapped, Called, Gated, effect, fetched}
 use Rattle.program_model.specs.Calls.{CallPlan, Set, Look, Read, Write, Exit}
-use Rattle.program_model.specs.Cache.{Cache, Gathered, gather, blocks_of, in_flight, flight_of, landed, landed_from, rest_of, kept}
+use Rattle.program_model.specs.Cache.{Cache, Gathered, gather, blocks_of, in_flight, flight_of, landed_from}
 use Rattle.program_model.specs.PlainRun.{State, text_of}
 use Rattle.code_model.specs.Patch.{patched_instr}
-use Rattle.run_model.specs.Run.{World, Run, RunEnd, StoreFailed, Answer, Usual, Took, Failed, Lost}
-use Rattle.run_model.specs.OwnMoves.{ended, entered, program_after, program_at, program_step, call_step, read_on, look_done, write_step, write_done, own_step, own_unless}
+use Rattle.run_model.specs.Run.{World, Run, Answer, Usual, Took, Failed, Lost}
+use Rattle.run_model.specs.OwnMoves.{entered, program_after, program_at, program_step, call_step, read_on, look_done, write_step, write_done, own_step, own_unless}
 use Rattle.run_model.specs.Moves.{step, step_unless, begun, fetch_step, fetch_of, fetch_ends, fetch_failed, landed_with, cached_too}
 use Rattle.run_model.specs.OwnLaws.{Accepted}
 use Rattle.own_laws.proofs.Alike.{gated, effect-patched, fetched-map}
-use Rattle.own_laws.proofs.Demand.{rank, rank-stub, rank-program, rank-most, call_rank, call_rank-most, Demand, calm, GatherOf, gather-of, few_blocks, Small, plan-small}
-use Rattle.own_laws.proofs.InvisibleShadow.{shadow_move-keeps, kept_begun}
-use Rattle.own_laws.proofs.OwnSide.{OwnSide, in_program, in_stub, at_call, waits, called, over, plan, program_side, waiting_side, called_side, placed}
+use Rattle.own_laws.proofs.Demand.{rank, rank-stub, rank-program, call_rank, call_rank-most, Demand, calm, GatherOf, gather-of, few_blocks, Small, plan-small}
+use Rattle.own_laws.proofs.InvisibleShadow.{shadow_move-keeps}
+use Rattle.own_laws.proofs.OwnSide.{OwnSide, in_program, in_stub, at_call, waits, called, over, plan, program_side, called_side, placed}
 use Rattle.own_laws.proofs.Reached.{reached-fits, none_some, false_true}
-use Rattle.own_laws.proofs.Side.{Side, side_of, with_side, Tally, Kept, kept_of}
+use Rattle.own_laws.proofs.Side.{side_of, with_side, Tally, Kept}
 use Rattle.own_laws.proofs.StubWords.{three, stub_side}
 use Rattle.own_laws.proofs.StubRows.{left, WordGoes, to_row, to_call, word_goes, tally_after}
 
@@ -151,8 +151,8 @@ module _ (w : World) (x : Answer) where
       let had : r.gathered ≡ t.gathered = ap (λ p. p.tally.gathered) is in
       let now : rank (side_of r) ≡ left 26 + call_rank true t.gathered = ap rank is ∙ rank-stub q q t true 26 q.registers page in
       let later : rank (record (side_of r) { stalled = false; tally = record (side_of r).tally { gathered = r.gathered + 1 } }) ≡ left 26 + call_rank false (t.gathered + 1) =
-          ap (λ p. rank (record p { stalled = false; tally = record p.tally { gathered = p.tally.gathered + 1 } })) is
-          ∙ rank-stub q q (record t { gathered = t.gathered + 1 }) false 26 q.registers page in
+      ap (λ p. rank (record p { stalled = false; tally = record p.tally { gathered = p.tally.gathered + 1 } })) is
+      ∙ rank-stub q q (record t { gathered = t.gathered + 1 }) false 26 q.registers page in
       (omega (arith, now, had), omega (arith, later, had))
 
   landed_from-none : (o : Option BlockSpot) (c : Cache) → c.demanded ≡ o → is_some o ≡ true → is_some (landed_from o c).demanded ≡ false

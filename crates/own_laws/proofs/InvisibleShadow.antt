@@ -1,6 +1,5 @@
 -- A move of the shadow leaves the own side, puts nothing, and hears from the outside only that a look failed.
 use Rattle.std.proofs.Common.{◌≡◌, ℕ, Bool, true, false, List, [], ◌∷◌, Option, Some, None, refl, ap, sym, ◌∙◌}
-use Rattle.spec_base.specs.declared.layout.Layout.{Layout}
 use Rattle.spec_base.specs.declared.machine.View.TheVariants.{Shadow}
 use Rattle.spec_base.specs.declared.note.ShadowState.{ShadowState}
 use Rattle.spec_base.specs.declared.note.ShadowState.TheVariants.{Never, Running, Stopped, Parked}
@@ -18,10 +17,10 @@ use Rattle.program_model.specs.Calls.{CallPlan, Set, Look, Read, Write, Exit, op
 use Rattle.program_model.specs.PlainRun.{size_in}
 use Rattle.program_model.specs.Cache.{Cache, hinted, all_hinted, hint_if, is_idle_hint, blocks_of}
 use Rattle.run_model.specs.Run.{World, Run, RunEnd, Answer, Usual, Took, Failed, Lost, rewritten_words}
-use Rattle.run_model.specs.ShadowMoves.{shadow_in, shadow_at_word, shadow_after, shadow_gate, shadow_stored, assumed, look_assumed, assumed_with, hint_given, fill, fill_if, is_filled, parked, arrived_if, word_counted, fetch_shadow, is_running, is_arrival, shadow_plan}
+use Rattle.run_model.specs.ShadowMoves.{shadow_in, shadow_at_word, shadow_after, shadow_gate, shadow_stored, assumed, look_assumed, assumed_with, hint_given, fill_if, is_filled, parked, arrived_if, word_counted, fetch_shadow, is_running, is_arrival, shadow_plan}
 use Rattle.run_model.specs.Moves.{step, step_unless, moved, begun, shadow_while}
-use Rattle.run_model.specs.OwnLaws.{IsShadowMove, has_failed, IsInvisible, ShadowIsInvisible}
-use Rattle.own_laws.proofs.Side.{Side, side_of, part_of, Kept, kept_of}
+use Rattle.run_model.specs.OwnLaws.{IsShadowMove, has_failed, ShadowIsInvisible}
+use Rattle.own_laws.proofs.Side.{part_of, Kept, kept_of}
 use Rattle.std.proofs.Common.{◌&&◌}
 
 -- the new run keeps what the old one has of the program

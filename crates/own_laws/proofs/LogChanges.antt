@@ -1,8 +1,8 @@
 -- What the stub's stores to the link, and what others append, leave of the hint log and of the box.
-use Rattle.std.proofs.Common.{◌≡◌, ℕ, zero, suc, ◌+◌, ◌-◌, ◌*◌, ◌/◌, ◌%◌, ◌^◌, ◌≤◌, ◌<◌, ◌⊎◌, inl, inr, refl, ap, ap₂, sym, subst, ◌∙◌, arith}
+use Rattle.std.proofs.Common.{◌≡◌, ℕ, zero, suc, ◌+◌, ◌*◌, ◌^◌, ◌≤◌, ◌<◌, ◌⊎◌, inl, inr, refl, ap₂, sym, subst, ◌∙◌, arith}
 use Rattle.std.proofs.Math.Nat.{eq-or-lt_of_le}
 use Rattle.spec_base.specs.Word.{byte_of}
-use Rattle.rv_model.specs.Memory.{Memory, stored, patched, loaded}
+use Rattle.rv_model.specs.Memory.{Memory, stored}
 use Rattle.rv_model.specs.Registers.{Registers, reg}
 use Rattle.code_model.specs.Log.{log_head, log_tail, log_place, logged, boxed_site, boxed}
 use Rattle.own_laws.specs.StubLaws.{Appends, IsOldest, IsEmpty, without_oldest}

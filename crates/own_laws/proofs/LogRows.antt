@@ -1,5 +1,5 @@
 -- The stub and the hint log, by rows: what is known of the log at each word, and that each word leads on.
-use Rattle.std.proofs.Common.{◌≡◌, ℕ, zero, suc, ◌+◌, ◌-◌, ◌*◌, ◌/◌, ◌%◌, ◌^◌, ◌≤◌, ◌<◌, ◌⊎◌, inl, inr, Bool, true, false, not, refl, ◌∙◌, ap, sym, subst, ◌==◌, arith, bit_and, lit<, eqb→eq, ap₂}
+use Rattle.std.proofs.Common.{◌≡◌, ℕ, suc, ◌+◌, ◌-◌, ◌*◌, ◌%◌, ◌^◌, ◌≤◌, ◌<◌, ◌⊎◌, inl, inr, Bool, true, false, not, refl, ◌∙◌, ap, sym, subst, ◌==◌, arith, bit_and, lit<, eqb→eq, ap₂}
 use Rattle.std.proofs.lemmas.Nat.{and_mask}
 use Rattle.std.proofs.lemmas.Bool.{cases_lt}
 use Rattle.std.proofs.lemmas.Bool.Decides.{nat_tests}
@@ -7,17 +7,16 @@ use Rattle.spec_base.specs.Word.{wrap}
 use Rattle.spec_base.specs.declared.note.ShadowState.{ShadowState}
 use Rattle.spec_base.specs.declared.note.ShadowState.TheVariants.{Stopped}
 use Rattle.rv_model.specs.Memory.{Memory, stored, loaded}
-use Rattle.rv_model.specs.Registers.{Registers, reg}
+use Rattle.rv_model.specs.Registers.{Registers}
 use Rattle.program_model.specs.Calls.{key_of}
 use Rattle.program_model.specs.PlainRun.{State, plan_of}
 use Rattle.code_model.specs.Log.{log_head, log_tail, log_place, logged}
 use Rattle.run_model.specs.Run.{World, Run, Answer}
-use Rattle.run_model.specs.OwnMoves.{restarted}
-use Rattle.own_laws.specs.StubLaws.{Appends, IsOldest, IsEmpty, IsBoxed, without_oldest, Outcome, keyless, takes, empties}
-use Rattle.own_laws.proofs.LogChanges.{Appends-same, Appends-again, takes-oldest, head-emptied, tail-emptied, empty-box_stored, BoxedTo, site_boxed, register_boxed}
+use Rattle.own_laws.specs.StubLaws.{Appends, IsOldest, IsEmpty, Outcome, keyless, takes, empties}
+use Rattle.own_laws.proofs.LogChanges.{Appends-same, takes-oldest, head-emptied, tail-emptied, empty-box_stored, BoxedTo, site_boxed, register_boxed}
 use Rattle.own_laws.proofs.Patches.{loaded-stored}
-use Rattle.own_laws.proofs.Side.{Side, side_of, with_side, Tally}
-use Rattle.own_laws.proofs.StubRows.{Saved31, Saved30, Saved29, Two, All, save31, save30, save29, save_key, in_log}
+use Rattle.own_laws.proofs.Side.{side_of, with_side, Tally}
+use Rattle.own_laws.proofs.StubRows.{Saved31, Two, All, save31, save30, save29, save_key, in_log}
 use Rattle.own_laws.proofs.StubWords.{three, three-own, stub_side, at, restarted_tally, branched, after_word, linked, stopped, boxed_in, InLog, word_1, word_2, word_3, word_4, word_5, word_6, word_7, word_8, word_9, word_10, word_11, word_12, word_13, word_14, word_15, word_16, word_17, word_18, word_19, word_20, word_21, word_22, word_23, word_24, word_25, word_28, word_29, word_30, word_31, word_32, word_33, word_34, word_35, word_36, word_37-66, word_67, word_68, word_69, word_70, word_71}
 
 -- ---- what is known of the log
@@ -232,9 +231,12 @@ module _ (w : World) (x : Answer) (q : State) (t : Tally) (fits : (n : ℕ) → 
   -- word 37 + j leads to the next register, and the last to word 67
   register_stored : (log : Memory) (r : Run) (j : ℕ) → j < 30 → Known (boxing log j) r → Known (boxing log (suc j)) (boxed_in w x q t r (q.registers 29) (q.registers 30) j)
   register_stored log r j h (m, s, e, b) =
-      let is : three q.registers (q.registers 29) (q.registers 30) 0x4200_1000 (suc j) ≡ q.registers (suc j) = three-low q.registers 0x4200_1000 j h in
-      (m, s, empty-box_stored r.shared (0x4200_1000 + 8 * suc j) _ (omega arith) e,
-      subst (λ v. BoxedTo (stored r.shared (0x4200_1000 + 8 * suc j) 8 v) q.pc q.registers (suc j)) (sym is) (register_boxed r.shared q.pc q.registers j (fits (suc j)) b))
+      let is : three q.registers (q.registers 29) (q.registers 30) 0x4200_1000 (suc j) ≡ q.registers (suc j) = three-low q.registers 0x4200_1000 j h in (
+        m,
+        s,
+        empty-box_stored r.shared (0x4200_1000 + 8 * suc j) _ (omega arith) e,
+        subst (λ v. BoxedTo (stored r.shared (0x4200_1000 + 8 * suc j) 8 v) q.pc q.registers (suc j)) (sym is) (register_boxed r.shared q.pc q.registers j (fits (suc j)) b),
+      )
 
   next_register : (log : Memory) (r : Run) (j : ℕ) (page : Memory) → j < 30 → Two page q.registers → Known (boxing log j) r → (j + 1 < 30) ⊎ (30 ≤ j + 1)
       → Leads (boxing log j) (after_word w x q t r (37 + j) (q.registers 29) (q.registers 30) 0x4200_1000 page)

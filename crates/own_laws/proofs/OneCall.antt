@@ -1,18 +1,17 @@
 -- At the word that leaves the stub the own hart has done the call that it met at its gate, and nothing else.
-use Rattle.std.proofs.Common.{◌≡◌, ◌≢◌, ℕ, zero, suc, ◌+◌, ◌*◌, ◌≤◌, ◌<◌, Bool, true, false, ◌==◌, Option, Some, None, refl, ◌∙◌, ap, sym, subst, arith, eqb→eq}
+use Rattle.std.proofs.Common.{◌≡◌, ◌≢◌, ℕ, ◌+◌, ◌*◌, ◌≤◌, Bool, true, false, ◌==◌, refl, ◌∙◌, ap, sym, subst, arith, eqb→eq}
 use Rattle.spec_base.specs.declared.machine.View.TheVariants.{Program, Stub}
 use Rattle.spec_base.specs.Files.{Files}
 use Rattle.rv_model.specs.Registers.{Registers, with_reg}
 use Rattle.program_model.specs.Calls.{CallPlan, Set, Look, Read, Write, Exit}
 use Rattle.program_model.specs.PlainRun.{State, performed}
 use Rattle.run_model.specs.Run.{World, Run}
-use Rattle.run_model.specs.Moves.{Moves, run}
-use Rattle.run_model.specs.OwnLaws.{Accepted}
+use Rattle.run_model.specs.Moves.{run}
 use Rattle.own_laws.specs.StubLaws.{IsLeaving, leave_word, IsOneCall, StubIsOneCall}
 use Rattle.own_laws.proofs.OwnLaws.{own_side}
 use Rattle.own_laws.proofs.OwnSide.{OwnSide, in_program, in_stub, at_call, waits, called, over, plan}
 use Rattle.own_laws.proofs.Reached.{none_some}
-use Rattle.own_laws.proofs.Side.{Side, side_of}
+use Rattle.own_laws.proofs.Side.{side_of}
 use Rattle.own_laws.proofs.StubRows.{left}
 
 pub program_stub : {A : Type 0} → Program ≡ Stub → A

@@ -1,16 +1,15 @@
 -- The laws of the own side: preservation, and that it follows the run from the restart.
-use Rattle.std.proofs.Common.{◌≡◌, ℕ, zero, suc, ◌<◌, Bool, true, false, not, List, [], ◌==◌, Option, Some, None, refl, ◌∙◌, ap, sym, subst, is_some, eqb→eq, arith}
+use Rattle.std.proofs.Common.{◌≡◌, ℕ, ◌<◌, true, not, ◌==◌, Option, Some, None, refl, ◌∙◌, ap, sym, subst, is_some, arith}
 use Rattle.std.proofs.lemmas.Bool.Decides.{nat_tests}
 use Rattle.std.specs.Option.{option_and_then}
-use Rattle.spec_base.specs.declared.machine.View.TheVariants.{Program}
-use Rattle.program_model.specs.PlainRun.{State, Taken, Output, plain_state, state_after, all_taken}
+use Rattle.program_model.specs.PlainRun.{State, Output, state_after, all_taken}
 use Rattle.run_model.specs.Run.{World, Run, opened_run}
 use Rattle.run_model.specs.Moves.{Moves, run}
 use Rattle.run_model.specs.Restarts.{from_restart}
-use Rattle.run_model.specs.OwnLaws.{Accepted, DoesAsPlain, Preserved, puts_of, counts_of, OwnIs, OwnFollows}
+use Rattle.run_model.specs.OwnLaws.{Accepted, Preserved, puts_of, OwnIs, OwnFollows}
 use Rattle.own_laws.proofs.OwnSide.{OwnSide, in_program, Follows, follows, run-goes}
-use Rattle.own_laws.proofs.Reached.{Reached, Fixes, Fixes-counts_of, false_true}
-use Rattle.own_laws.proofs.Side.{Side, side_of, tally_of}
+use Rattle.own_laws.proofs.Reached.{Fixes, Fixes-counts_of, false_true}
+use Rattle.own_laws.proofs.Side.{side_of, tally_of}
 
 -- the own side of a run of an accepted program is at one of its stages
 pub own_side : (w : World) → Accepted w → (ms : Moves) → OwnSide w (side_of (run w ms))
@@ -60,13 +59,16 @@ own_follows w a ms restarted whole =
       where
         started : (n : ℕ) → 0 < n → not (n == 0) ≡ true
         started n h = grind (arith, nat_tests)
-    by_origin (Some o) e =
-        (f.state, ap (λ origin. option_and_then (λ s. state_after w.image w.files all_taken s r.since.own) origin) e ∙ f.reached.since o e whole, record {
-          memory = ap (λ (s : State). s.memory) f.own;
-          files = ap (λ (s : State). s.files) f.own;
-          calls = ap (λ (s : State). s.calls) f.own;
-          out = ap (λ (s : State). s.out) f.own;
-          err = ap (λ (s : State). s.err) f.own;
-          exited = ap (λ (s : State). s.exited) f.own;
-          place = λ v. (ap (λ (s : State). s.registers) (f.place v), ap (λ (s : State). s.pc) (f.place v));
-        })
+    by_origin (Some o) e = (
+      f.state,
+      ap (λ origin. option_and_then (λ s. state_after w.image w.files all_taken s r.since.own) origin) e ∙ f.reached.since o e whole,
+      record {
+        memory = ap (λ (s : State). s.memory) f.own;
+        files = ap (λ (s : State). s.files) f.own;
+        calls = ap (λ (s : State). s.calls) f.own;
+        out = ap (λ (s : State). s.out) f.own;
+        err = ap (λ (s : State). s.err) f.own;
+        exited = ap (λ (s : State). s.exited) f.own;
+        place = λ v. (ap (λ (s : State). s.registers) (f.place v), ap (λ (s : State). s.pc) (f.place v));
+      },
+    )

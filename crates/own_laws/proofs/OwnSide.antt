@@ -1,11 +1,10 @@
 -- The own side of a run, by stages: in the program, at a word of the stub, at its call, waiting there for a block, behind the call, or ended. Each move keeps it.
-use Rattle.std.proofs.Common.{◌≡◌, ℕ, zero, suc, ◌+◌, ◌-◌, ◌*◌, ◌/◌, ◌%◌, ◌^◌, ◌≤◌, ◌<◌, ◌⊎◌, inl, inr, Bool, true, false, not, ◌&&◌, ◌||◌, ℤ, pos, List, [], ◌∷◌, ◌++◌, length, map, drop, Option, Some, None, refl, ◌∙◌, ap, sym, subst, ◌==◌, is_some, arith}
+use Rattle.std.proofs.Common.{◌≡◌, ℕ, ◌+◌, ◌*◌, ◌≤◌, Bool, true, false, not, ◌&&◌, ◌||◌, List, [], ◌∷◌, length, drop, Option, Some, None, refl, ◌∙◌, ap, sym, subst, ◌==◌, is_some, arith}
 use Rattle.std.proofs.lemmas.Bool.Decides.{nat_tests}
-use Rattle.std.specs.Prelude.{⊤, slice_get, unwrap_or}
+use Rattle.std.specs.Prelude.{slice_get, unwrap_or}
 use Rattle.std.specs.Option.{option_map}
 use Rattle.spec_base.specs.Word.{wrap}
 use Rattle.spec_base.specs.declared.machine.Trap.TheVariants as trap
-use Rattle.spec_base.specs.declared.machine.View.{View}
 use Rattle.spec_base.specs.declared.machine.View.TheVariants.{Plain, Program, Stub}
 use Rattle.spec_base.specs.declared.note.Note.{Note}
 use Rattle.spec_base.specs.declared.note.Note.TheVariants as note
@@ -19,17 +18,17 @@ use Rattle.rv_model.specs.Rights.{data_rights}
 use Rattle.rv_model.specs.Effect.{Effect, Next, Stored, Trapped, Called, Gated, effect, fetched}
 use Rattle.program_model.specs.Calls.{CallPlan, Set, Look, Read, Write, Exit}
 use Rattle.program_model.specs.Cache.{Gathered, gather, blocks_of, in_flight}
-use Rattle.program_model.specs.PlainRun.{State, Taken, Step, Went, next, state_after, at_word, after_effect, performed, taken_by, text_of, plan_of, all_taken, end_of}
+use Rattle.program_model.specs.PlainRun.{State, Taken, Went, next, state_after, at_word, after_effect, performed, taken_by, text_of, plan_of, all_taken, end_of}
 use Rattle.code_model.specs.Patch.{patched_instr}
 use Rattle.run_model.specs.Run.{World, Run, RunEnd, Exits, Traps, StoreFailed, SinkFailed, Answer, Usual, Took, Failed, Lost}
-use Rattle.run_model.specs.OwnMoves.{ended, program_after, program_at, program_step, call_step, call_done, read_on, look_done, write_step, write_done, taken_in, own_step}
-use Rattle.run_model.specs.Moves.{Moves, step, step_unless, moved, begun, run_from, fetch_step, fetch_of, fetch_ends, fetch_failed, landed_with, cached_too}
-use Rattle.run_model.specs.OwnLaws.{SameEnd, IsShadowMove, Accepted}
+use Rattle.run_model.specs.OwnMoves.{program_after, program_at, program_step, call_step, read_on, look_done, write_step, write_done, taken_in, own_step}
+use Rattle.run_model.specs.Moves.{Moves, step, step_unless, begun, run_from, fetch_of, fetch_ends, fetch_failed, landed_with}
+use Rattle.run_model.specs.OwnLaws.{SameEnd, Accepted}
 use Rattle.own_laws.proofs.Alike.{gated, effect-patched, effect-no_gate, fetched-map, NoGate}
 use Rattle.own_laws.proofs.InvisibleShadow.{shadow_move-keeps}
-use Rattle.own_laws.proofs.Reached.{Reached, LeadsTo, Agrees, Fixes-last, length-bytes_at, reached-more, reached-with, reached-fits, completed_tally, end_of-step, whole_put, none_some, false_true}
+use Rattle.own_laws.proofs.Reached.{Reached, Agrees, Fixes-last, length-bytes_at, reached-more, reached-with, reached-fits, completed_tally, end_of-step, whole_put, none_some}
 use Rattle.own_laws.proofs.Side.{Side, side_of, with_side, Tally, Kept}
-use Rattle.own_laws.proofs.StubWords.{three, three-own, stub_side, restarted_tally}
+use Rattle.own_laws.proofs.StubWords.{three, three-own, stub_side}
 use Rattle.own_laws.proofs.StubRows.{Row, w1, left, WordGoes, to_row, to_call, word_goes, tally_after}
 
 -- ---- stages

@@ -1,9 +1,9 @@
 -- From the gate to the word that leaves the stub: each move keeps what the rows say of the hint log.
-use Rattle.std.proofs.Common.{◌≡◌, ℕ, zero, suc, ◌+◌, ◌-◌, ◌*◌, ◌/◌, ◌%◌, ◌^◌, ◌≤◌, ◌<◌, Bool, true, false, not, ◌&&◌, List, [], ◌∷◌, length, map, nat_le, nat_lt, slice_get, Option, Some, None, refl, ◌∙◌, ap, sym, subst, ◌==◌, arith, eqb→eq, is_some, drop, ap₂}
+use Rattle.std.proofs.Common.{◌≡◌, ℕ, suc, ◌+◌, ◌-◌, ◌*◌, ◌/◌, ◌%◌, ◌^◌, ◌≤◌, ◌<◌, Bool, true, false, ◌&&◌, List, [], ◌∷◌, length, map, nat_le, slice_get, Option, Some, None, refl, ◌∙◌, ap, sym, subst, ◌==◌, arith, is_some, drop, ap₂}
 use Rattle.std.specs.Option.{option_map}
 use Rattle.std.proofs.lemmas.Option.{slice_get_within}
 use Rattle.std.proofs.lemmas.Bool.Decides.{nat_tests}
-use Rattle.spec_base.specs.Layout.{is_lawful, image_limit}
+use Rattle.spec_base.specs.Layout.{image_limit}
 use Rattle.spec_base.specs.declared.layout.Version.{Version}
 use Rattle.spec_base.specs.declared.layout.Version.TheVariants.{One, Two}
 use Rattle.spec_base.specs.declared.machine.View.TheVariants.{Plain, Program, Stub}
@@ -22,22 +22,22 @@ use Rattle.rv_model.specs.Registers.{reg}
 use Rattle.rv_model.specs.Effect.{Effect, Next, Stored, Trapped, Called, Gated, effect, fetched}
 use Rattle.program_model.specs.Calls.{CallPlan, Set, Look, Read, Write, Exit, key_of}
 use Rattle.program_model.specs.Cache.{Gathered, gather, blocks_of, in_flight}
-use Rattle.program_model.specs.PlainRun.{State, plan_of, text_of, performed}
+use Rattle.program_model.specs.PlainRun.{State, text_of, performed}
 use Rattle.code_model.specs.Log.{log_head, log_tail}
 use Rattle.code_model.specs.Patch.{patched_instr}
 use Rattle.run_model.specs.Run.{World, Run, RunEnd, Answer, Usual, Took, Failed, Lost}
 use Rattle.run_model.specs.OwnMoves.{program_after, program_at, program_step, call_step, read_on, look_done, write_step, write_done, taken_in, own_step}
 use Rattle.run_model.specs.ShadowMoves.{shadow_in, shadow_step}
-use Rattle.run_model.specs.Moves.{Moves, step, step_unless, begun, run, run_from, fetch_step, fetch_of, fetch_ends, fetch_failed, landed_with, cached_too, shadow_while}
+use Rattle.run_model.specs.Moves.{Moves, step, step_unless, begun, run, run_from, fetch_of, fetch_ends, fetch_failed, landed_with, shadow_while}
 use Rattle.run_model.specs.OwnLaws.{Accepted, IsShadowMove}
-use Rattle.own_laws.specs.StubLaws.{IsLeaving, leave_word, Appends, IsOldest, Outcome, keyless, takes, empties, without_oldest, Passing, restarts_after, IsPassage, StubKeepsLog}
-use Rattle.own_laws.proofs.Alike.{gated, effect-patched, effect-no_gate, fetched-map, NoGate}
+use Rattle.own_laws.specs.StubLaws.{IsLeaving, Appends, Outcome, keyless, takes, empties, without_oldest, Passing, restarts_after, IsPassage, StubKeepsLog}
+use Rattle.own_laws.proofs.Alike.{gated, effect-patched, fetched-map}
 use Rattle.own_laws.proofs.InvisibleShadow.{shadow_move-keeps}
 use Rattle.own_laws.proofs.LogChanges.{Appends-again, Appends-same}
-use Rattle.own_laws.proofs.LogRows.{Phase, fresh, keyed, headed, judging, found, matching, oldest, settled, missed, halted, headless, emptied, boxing, is_asked, Fact, LogRow, r1, r25, r71, Onward, to_row, to_restarted, to_call, log_word_goes}
+use Rattle.own_laws.proofs.LogRows.{Phase, fresh, keyed, headed, judging, found, matching, oldest, settled, missed, halted, headless, emptied, boxing, is_asked, Fact, LogRow, r1, r71, Onward, to_row, to_restarted, to_call, log_word_goes}
 use Rattle.own_laws.proofs.OneCall.{program_stub}
 use Rattle.own_laws.proofs.OwnLaws.{own_side}
-use Rattle.own_laws.proofs.OwnSide.{OwnSide, in_program, in_stub, at_call, waits, called, over, plan, program_side, waiting_side, called_side, placed}
+use Rattle.own_laws.proofs.OwnSide.{OwnSide, in_program, in_stub, at_call, waits, called, over, plan, program_side, called_side, placed}
 use Rattle.own_laws.proofs.Reached.{Reached, reached-fits, none_some, false_true}
 use Rattle.own_laws.proofs.Side.{Side, side_of, with_side, Tally, Kept}
 use Rattle.own_laws.proofs.StubWords.{three, three-own, stub_side, restarted_tally}
@@ -362,8 +362,8 @@ stub_keeps_log w a ms x on p small log passing leaving =
     let order' : log_head gate.shared ≤ log_tail gate.shared = subst (λ m. log_head m ≤ log_tail m) (sym y.shared) log.order in
     let below' : log_tail gate.shared < 2 ^ 64 = subst (λ m. log_tail m < 2 ^ 64) (sym y.shared) log.below in
     let start : Passage w q (key_of (plan w q)) (q.registers 12) gate.shared gate.own_done gate.restarts gate =
-        at_word y.tally fresh 1 _ _ _ y.page r1 (Appends-same gate.shared below') refl
-        (record { done = sym (ap (λ p. p.tally.done) y.side); restarts = sym (ap (λ p. p.tally.restarts) y.side); asked = y.asked })
-        (y.side ∙ ap (λ rs. stub_side q y.tally 1 rs y.page) (sym (three-own q.registers))) in
+    at_word y.tally fresh 1 _ _ _ y.page r1 (Appends-same gate.shared below') refl
+    (record { done = sym (ap (λ p. p.tally.done) y.side); restarts = sym (ap (λ p. p.tally.restarts) y.side); asked = y.asked })
+    (y.side ∙ ap (λ rs. stub_side q y.tally 1 rs y.page) (sym (three-own q.registers))) in
     passage-ends w q y.fits y.place small gate.shared order' gate.own_done gate.restarts gate (run_from w gate on) (ap (λ p. p.gate) y.side) refl refl refl
     (run-passes w q y.fits y.place small gate.shared order' gate.own_done gate.restarts on gate start passing) leaving

@@ -1,18 +1,17 @@
 -- Each stretch of moves with an own move and a fetch brings the program on: 200 of them complete an instruction, or the run is over.
-use Rattle.std.proofs.Common.{◌≡◌, ℕ, zero, suc, ◌+◌, ◌-◌, ◌*◌, ◌≤◌, ◌<◌, ◌⊎◌, inl, inr, Bool, true, false, List, [], ◌∷◌, ◌++◌, Option, Some, None, refl, ◌∙◌, ap, sym, subst, arith, lit<, is_some, zero-add, suc-add, append_assoc}
+use Rattle.std.proofs.Common.{◌≡◌, ℕ, zero, suc, ◌+◌, ◌*◌, ◌≤◌, ◌<◌, ◌⊎◌, inl, inr, true, false, [], ◌∷◌, ◌++◌, Option, Some, None, refl, ◌∙◌, ap, sym, subst, arith, is_some, zero-add, suc-add, append_assoc}
 use Rattle.std.specs.Prelude.{IsSome}
 use Rattle.spec_base.specs.declared.note.Move.{Move}
 use Rattle.spec_base.specs.declared.note.Move.TheVariants.{O, S, T, D}
-use Rattle.run_model.specs.Run.{World, Run, RunEnd, Answer, Usual, opened_run}
+use Rattle.run_model.specs.Run.{World, Run, RunEnd, Answer, opened_run}
 use Rattle.run_model.specs.Moves.{Moves, step, step_unless, silent, run, run_from}
 use Rattle.run_model.specs.OwnLaws.{Accepted, HasOwn, HasFetch, Stretches, Progress}
 use Rattle.own_laws.proofs.Demand.{rank, rank-stub, rank-program, rank-most, Demand}
-use Rattle.own_laws.proofs.Gets.{Gets, done, ends, lower, Moved, gets, idle, move-moved}
+use Rattle.own_laws.proofs.Gets.{done, ends, lower, Moved, gets, idle, move-moved}
 use Rattle.own_laws.proofs.OwnLaws.{own_side}
-use Rattle.own_laws.proofs.OwnSide.{OwnSide, in_program, in_stub, at_call, waits, called, over, step-goes, run-goes}
-use Rattle.own_laws.proofs.Reached.{none_some, false_true, reached-fits}
-use Rattle.own_laws.proofs.Side.{Side, side_of}
-use Rattle.own_laws.proofs.StubRows.{left, WordGoes, to_row, to_call, word_goes}
+use Rattle.own_laws.proofs.OwnSide.{OwnSide, in_program, in_stub, at_call, waits, called, over, step-goes}
+use Rattle.own_laws.proofs.Reached.{none_some, false_true}
+use Rattle.own_laws.proofs.Side.{side_of}
 use Rattle.own_laws.proofs.StubWords.{three}
 
 -- n instructions are done and at most k own moves are left, or more are done, or the run is over

@@ -1,13 +1,12 @@
 -- How far the plain program is: after as many instructions as the own hart has completed, and in the run from the restart after as many as since then.
-use Rattle.std.proofs.Common.{◌≡◌, ℕ, zero, suc, ◌+◌, ◌-◌, ◌^◌, ◌<◌, Bool, true, false, not, ◌&&◌, ◌||◌, List, [], ◌∷◌, ◌++◌, length, ◌==◌, Option, Some, None, refl, ◌∙◌, ap, sym, subst, arith, add-one, is_some, eqb→eq}
+use Rattle.std.proofs.Common.{◌≡◌, ℕ, zero, suc, ◌+◌, ◌^◌, ◌<◌, Bool, true, false, not, ◌&&◌, ◌||◌, List, [], ◌∷◌, ◌++◌, length, ◌==◌, Some, None, refl, ◌∙◌, ap, sym, add-one, is_some, eqb→eq}
 use Rattle.std.specs.Prelude.{slice_get, unwrap_or}
 use Rattle.std.specs.Option.{option_and_then}
-use Rattle.program_model.specs.Calls.{CallPlan, Write}
-use Rattle.program_model.specs.PlainRun.{State, Taken, Step, Went, next, next_state, next_unless, completed, state_after, plain_state, performed, taken_by, all_taken, end_of, end_of_step, end_unless, End}
+use Rattle.program_model.specs.PlainRun.{State, Taken, Step, Went, next, next_state, next_unless, completed, state_after, plain_state, all_taken, end_of, end_of_step, end_unless}
 use Rattle.rv_model.specs.Memory.{Memory, bytes_at}
 use Rattle.run_model.specs.Run.{World}
 use Rattle.run_model.specs.OwnLaws.{Accepted, counts_of}
-use Rattle.own_laws.proofs.Bounds.{Sized, reached-sized}
+use Rattle.own_laws.proofs.Bounds.{reached-sized}
 use Rattle.own_laws.proofs.Side.{Tally}
 
 -- ---- counts that puts have taken

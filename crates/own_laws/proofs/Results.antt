@@ -1,11 +1,11 @@
 -- The result of each computing instruction, and of each load, is below 2^64 where its operands are, and bytes are below 256.
-use Rattle.std.proofs.Common.{◌≡◌, ℕ, zero, suc, ◌+◌, ◌-◌, ◌*◌, ◌/◌, ◌%◌, ◌^◌, ◌≤◌, ◌<◌, Bool, true, false, ℤ, pos, negsuc, ◌==◌, arith, div-le_self, lit<, if◌then◌else◌, nat_lt, bit_or, bit_xor, bit_and}
-use Rattle.std.specs.Prelude.{int_div, int_rem, int_lt, ◌*ℤ◌, nat_abs, neg_ℤ}
+use Rattle.std.proofs.Common.{ℕ, zero, suc, ◌+◌, ◌-◌, ◌*◌, ◌/◌, ◌%◌, ◌^◌, ◌≤◌, ◌<◌, Bool, true, false, ℤ, pos, negsuc, ◌==◌, arith, div-le_self, lit<, if◌then◌else◌}
+use Rattle.std.specs.Prelude.{int_div, int_rem, ◌*ℤ◌, nat_abs, neg_ℤ}
 use Rattle.std.proofs.lemmas.Bool.Decides.{nat_tests}
 use Rattle.std.specs.Int.{w8, w16, w32, w64, cast_signed, cast_unsigned, int_shr}
-use Rattle.std.proofs.lemmas.Nat.{and_le_l, or_lt, xor_lt, div_below, mul-lt}
+use Rattle.std.proofs.lemmas.Nat.{and_le_l, or_lt, xor_lt, div_below}
 use Rattle.std.proofs.Math.Nat.{mod-le, mul-le-mul_right}
-use Rattle.spec_base.specs.Word.{wrap, word_of_int, plus_int}
+use Rattle.spec_base.specs.Word.{wrap, word_of_int}
 use Rattle.rv_decode.specs.declared.instr.RegOp.{RegOp}
 use Rattle.rv_decode.specs.declared.instr.RegOp.TheVariants.{Add, Sll, Slt, Sltu, Xor, Srl, Or, And, Sub, Sra, Mul, Mulh, Mulhsu, Mulhu, Div, Divu, Rem, Remu}
 use Rattle.rv_decode.specs.declared.instr.RegWOp.{RegWOp}
@@ -15,7 +15,7 @@ use Rattle.rv_decode.specs.declared.instr.ImmWOp.{ImmWOp}
 use Rattle.rv_decode.specs.declared.instr.LoadOp.{LoadOp}
 use Rattle.rv_decode.specs.declared.instr.LoadOp.TheVariants.{Lb, Lh, Lw, Ld, Lbu, Lhu, Lwu}
 use Rattle.rv_model.specs.Memory.{Memory, loaded}
-use Rattle.rv_model.specs.Arithmetic.{signed, unsigned, bit, extended_word, low, quotient, remainder, word_quotient, word_remainder, reg_result, reg_w_result, imm_result, imm_w_result, register_form, register_w_form, load_width, extended}
+use Rattle.rv_model.specs.Arithmetic.{signed, unsigned, bit, extended_word, low, reg_result, reg_w_result, imm_result, imm_w_result, register_form, register_w_form, load_width, extended}
 
 -- ---- numbers
 

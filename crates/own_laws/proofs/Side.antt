@@ -1,5 +1,5 @@
 -- What the laws of the own side speak of: the program's part of a run, with what is counted since the last restart.
-use Rattle.std.proofs.Common.{◌≡◌, ℕ, ◌+◌, Bool, true, false, List, Option, Some, None, refl}
+use Rattle.std.proofs.Common.{◌≡◌, ℕ, Bool, List, Option, refl}
 use Rattle.spec_base.specs.declared.machine.View.{View}
 use Rattle.spec_base.specs.declared.spot.BlockSpot.{BlockSpot}
 use Rattle.rv_model.specs.Memory.{Memory}

@@ -1,16 +1,16 @@
 -- The stub on the own side, by rows: what is known at each word, and that each word leads to the next row, or to the call.
-use Rattle.std.proofs.Common.{◌≡◌, ℕ, zero, suc, ◌+◌, ◌-◌, ◌*◌, ◌/◌, ◌%◌, ◌^◌, ◌≤◌, ◌<◌, ◌⊎◌, inl, inr, Bool, true, false, not, ℤ, pos, refl, ◌∙◌, ap, sym, subst, ◌==◌, arith, bit_and, nat_le, lit<, eqb→eq}
+use Rattle.std.proofs.Common.{◌≡◌, ℕ, ◌+◌, ◌-◌, ◌*◌, ◌%◌, ◌^◌, ◌≤◌, ◌<◌, ◌⊎◌, inl, inr, Bool, true, false, not, refl, ◌∙◌, ap, sym, subst, ◌==◌, arith, bit_and, nat_le, lit<}
 use Rattle.std.proofs.lemmas.Nat.{and_mask}
 use Rattle.std.proofs.lemmas.Bool.{cases_lt}
 use Rattle.std.proofs.lemmas.Bool.Decides.{nat_tests}
 use Rattle.spec_base.specs.Word.{wrap, byte_of}
-use Rattle.rv_model.specs.Memory.{Memory, stored, patched, loaded}
+use Rattle.rv_model.specs.Memory.{Memory, stored, loaded}
 use Rattle.rv_model.specs.Registers.{Registers}
 use Rattle.program_model.specs.PlainRun.{State}
 use Rattle.program_model.specs.Cache.{Cache}
 use Rattle.run_model.specs.Run.{World, Run, Answer}
 use Rattle.own_laws.proofs.Patches.{loaded-stored, loaded-above_patch}
-use Rattle.own_laws.proofs.Side.{Side, side_of, with_side, Tally}
+use Rattle.own_laws.proofs.Side.{side_of, with_side, Tally}
 use Rattle.own_laws.proofs.StubWords.{three, three-own, stub_side, at, restarted_tally, branched, after_word, linked, stopped, boxed_in, InLog, word_1, word_2, word_3, word_4, word_5, word_6, word_7, word_8, word_9, word_10, word_11, word_12, word_13, word_14, word_15, word_16, word_17, word_18, word_19, word_20, word_21, word_22, word_23, word_24, word_25, word_28, word_29, word_30, word_31, word_32, word_33, word_34, word_35, word_36, word_37-66, word_67, word_68, word_69, word_70, word_71}
 
 -- ---- what is known

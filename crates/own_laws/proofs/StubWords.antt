@@ -1,17 +1,17 @@
 -- What each word of the stub does, whatever is in x29, x30 and x31: an equation for each.
-use Rattle.std.proofs.Common.{◌≡◌, ℕ, zero, suc, ◌+◌, ◌-◌, ◌*◌, ◌/◌, ◌%◌, ◌^◌, ◌≤◌, ◌<◌, Bool, true, false, not, ◌&&◌, ◌||◌, ℤ, pos, List, [], ◌∷◌, ◌++◌, Option, Some, None, refl, ◌∙◌, ap, sym, subst, ap₂, ◌==◌, arith, bit_and, nat_le, nat_lt, slice_get, eqb→eq, lit<, le-leb, lt-ltb, eq-eqb, take, drop, length, zero-add, suc-add}
+use Rattle.std.proofs.Common.{◌≡◌, ℕ, zero, suc, ◌+◌, ◌-◌, ◌*◌, ◌/◌, ◌%◌, ◌^◌, ◌≤◌, ◌<◌, Bool, true, false, not, ◌||◌, pos, List, [], ◌∷◌, ◌++◌, Some, None, refl, ◌∙◌, ap, sym, ap₂, ◌==◌, arith, bit_and, nat_le, nat_lt, slice_get, eqb→eq, lit<, le-leb, lt-ltb, eq-eqb, take, drop, length, zero-add, suc-add}
 use Rattle.std.proofs.lemmas.Bool.{and_from, or_right}
 use Rattle.std.proofs.lemmas.Bool.Decides.{nat_tests}
 use Rattle.std.proofs.Math.Path.{fun_ext}
 use Rattle.spec_base.specs.Word.{wrap, plus_int}
 use Rattle.spec_base.specs.declared.machine.View.TheVariants.{Stub}
-use Rattle.spec_base.specs.declared.note.ShadowState.TheVariants.{Running, Stopped}
+use Rattle.spec_base.specs.declared.note.ShadowState.TheVariants.{Stopped}
 use Rattle.rv_decode.specs.declared.instr.Instr.{Instr}
 use Rattle.rv_decode.specs.declared.instr.LoadOp.TheVariants.{Ld}
-use Rattle.rv_model.specs.Memory.{Memory, stored, patched, loaded, all_from}
+use Rattle.rv_model.specs.Memory.{Memory, stored, loaded, all_from}
 use Rattle.rv_model.specs.Rights.{in_private, in_link, stub_rights}
 use Rattle.rv_model.specs.Registers.{Registers, with_reg}
-use Rattle.rv_model.specs.Effect.{Effect, jump_if, branch_if, load_effect, load_if, store_effect, store_if, steps_on, fetched}
+use Rattle.rv_model.specs.Effect.{jump_if, branch_if, load_effect, load_if, store_effect, store_if, steps_on, fetched}
 use Rattle.rv_model.specs.Space.{stub_sees}
 use Rattle.program_model.specs.Calls.{key_of}
 use Rattle.program_model.specs.PlainRun.{State, plan_of}
@@ -19,7 +19,7 @@ use Rattle.code_model.specs.Assembly.{sd}
 use Rattle.code_model.specs.Stub.{stub, box_stores}
 use Rattle.run_model.specs.Run.{World, Run, Answer}
 use Rattle.run_model.specs.OwnMoves.{stub_step, stub_at, stub_after, stub_stored, restarted}
-use Rattle.own_laws.proofs.Side.{Side, side_of, with_side, Tally}
+use Rattle.own_laws.proofs.Side.{Side, with_side, Tally}
 
 -- ---- the own hart at a word of the stub
 

@@ -1,9 +1,9 @@
 -- A passage through the stub: one call is performed, and the hint log is left, loses its oldest pair, or is emptied before a restart (this project's own).
-use Rattle.std.specs.Prelude.{ℕ, zero, suc, ◌+◌, ◌^◌, ◌≡◌, ◌≢◌, ◌≤◌, ◌<◌, Bool, true, false, List, [], ◌∷◌, Option, Some, None}
+use Rattle.std.specs.Prelude.{ℕ, ◌+◌, ◌^◌, ◌≡◌, ◌≢◌, ◌≤◌, ◌<◌, Bool, true, false, [], ◌∷◌, None}
 use Rattle.spec_base.specs.declared.machine.View.TheVariants.{Program, Stub}
 use Rattle.spec_base.specs.declared.note.Move.TheVariants.{O}
 use Rattle.rv_model.specs.Memory.{Memory, stored}
-use Rattle.rv_model.specs.Registers.{Registers, reg}
+use Rattle.rv_model.specs.Registers.{reg}
 use Rattle.program_model.specs.Calls.{key_of}
 use Rattle.program_model.specs.PlainRun.{State, plan_of, performed}
 use Rattle.code_model.specs.Log.{log_head, log_tail, logged, boxed_site, boxed}
