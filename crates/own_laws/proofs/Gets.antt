@@ -76,8 +76,11 @@ module _ (w : World) (x : Answer) where
         → GatherOf base.cache t.gathered (length (drop t.gathered (blocks_of spot))) had → Gets the_call (read_on b w d spot a had the_call)
     read-gets true d spot a had e small m g =
         let y = g.waiting e in
-        lower refl (omega (arith, g.more, y.1, few_blocks spot small, length-drop t.gathered (blocks_of spot), rank-stub q q t false 26 q.registers page, rank-stub q q (record t { gathered = had.had }) true 26 q.registers page))
-        (record { same = sym y.0; room = λ z. omega (arith, g.more, y.1, few_blocks spot small, length-drop t.gathered (blocks_of spot)) })
+        let few : had.had < 17 = omega (arith, g.more, y.1, few_blocks spot small, length-drop t.gathered (blocks_of spot)) in
+        let now : rank (side_of the_call) ≡ left 26 + call_rank false t.gathered = rank-stub q q t false 26 q.registers page in
+        let later : rank (side_of (read_on true w d spot a had the_call)) ≡ left 26 + call_rank true had.had =
+        rank-stub q q (record t { gathered = had.had }) true 26 q.registers page in
+        lower refl (omega (arith, g.more, few, now, later)) (record { same = sym y.0; room = λ z. few })
     read-gets false d spot a had e small m g = done refl (calm _ refl (ap is_some (g.here e) ∙ sym m.same))
 
     look-gets : (x : Answer) (name : List ℕ) → Demand the_call → Gets the_call (look_done w x the_call name)
@@ -111,7 +114,8 @@ module _ (w : World) (x : Answer) where
   tally_after-same true q t = (refl, refl)
   tally_after-same false q t = (refl, refl)
 
-  word-lowers : (r next : Run) (q : State) (t : Tally) (k : ℕ) (rs : Memory) (page : Memory) → side_of r ≡ stub_side q t k rs page → is_some r.cache.demanded ≡ false → WordGoes q t k r.cache next → Gets r next
+  word-lowers : (r next : Run) (q : State) (t : Tally) (k : ℕ) (rs : Memory) (page : Memory)
+      → side_of r ≡ stub_side q t k rs page → is_some r.cache.demanded ≡ false → WordGoes q t k r.cache next → Gets r next
   word-lowers r next q t k rs page e f (to_row b l x29 x30 x31 page' row is less same) =
       let y = tally_after-same b q t in
       lower (ap (λ p. p.tally.done) is ∙ y.0 ∙ sym (ap (λ p. p.tally.done) e))
@@ -134,7 +138,8 @@ module _ (w : World) (x : Answer) where
     own-gets r (waits t q page g is) d n z = false_true (sym n ∙ ap (λ p. p.stalled) is)
     own-gets r (called t q s k page h f y p is) d n z =
         placed w (λ r. Demand r → Gets r (own_step w x r)) r _ is
-        (λ d. lower refl (omega (arith, rank-stub q s t false 27 s.registers page, rank-program (side_of (own_step w x (with_side r (called_side q s t page)))) refl)) (record { same = d.same; room = d.room })) d
+        (λ d. let back : Run = own_step w x (with_side r (called_side q s t page)) in
+        lower refl (omega (arith, rank-stub q s t false 27 s.registers page, rank-program (side_of back) refl)) (record { same = d.same; room = d.room })) d
     own-gets r (over s e h o) d n z = none_some (sym z ∙ o.ended)
 
   -- ---- the fetch of the demanded block
@@ -163,7 +168,8 @@ module _ (w : World) (x : Answer) where
   flight_of-demanded (Some b) queue e = refl
   flight_of-demanded None queue e = false_true e
 
-  landed-gets : (o : Option BlockSpot) (r : Run) (notes : List Note) → r.cache.demanded ≡ o → is_some o ≡ true → OwnSide w (side_of r) → Demand r → r.stalled ≡ true → r.end ≡ None → Gets r (landed_with o r notes)
+  landed-gets : (o : Option BlockSpot) (r : Run) (notes : List Note)
+      → r.cache.demanded ≡ o → is_some o ≡ true → OwnSide w (side_of r) → Demand r → r.stalled ≡ true → r.end ≡ None → Gets r (landed_with o r notes)
   landed-gets None r notes p f h d n z = false_true f
   landed-gets (Some b) r notes p f h d n z =
       let y = waiting r h n z in

@@ -160,7 +160,8 @@ three-low q c j h = by_tests (suc j) (suc j == 31) (suc j == 30) (suc j == 29) r
     by_tests n false false true e f g l = ap q (sym (eqb→eq n 29 (rw g tt)))
     by_tests n false false false e f g l = refl
 
-module _ (w : World) (x : Answer) (q : State) (t : Tally) (fits : (n : ℕ) → q.registers n < 2 ^ 64) (place : q.pc < 2 ^ 64) (small_key : key_of (plan_of w.image.layout q) < 2 ^ 64) (before : Memory) (order : log_head before ≤ log_tail before) where
+module _ (w : World) (x : Answer) (q : State) (t : Tally) (fits : (n : ℕ) → q.registers n < 2 ^ 64) (place : q.pc < 2 ^ 64)
+    (small_key : key_of (plan_of w.image.layout q) < 2 ^ 64) (before : Memory) (order : log_head before ≤ log_tail before) where
   abbrev key : ℕ
   key = key_of (plan_of w.image.layout q)
 
@@ -174,7 +175,8 @@ module _ (w : World) (x : Answer) (q : State) (t : Tally) (fits : (n : ℕ) → 
   Known p r = Fact q key count before p r.shared r.shadow.state
 
   -- a word that leads to a row
-  to : {next : Run} (p p' : Phase) (r' : Run) (l a b c : ℕ) (page : Memory) → next ≡ at q t r' l a b c page → LogRow q key p' l a b c page → Known p' r' → is_asked p' ≡ is_asked p → (l == 27) ≡ false → Leads p next
+  to : {next : Run} (p p' : Phase) (r' : Run) (l a b c : ℕ) (page : Memory)
+      → next ≡ at q t r' l a b c page → LogRow q key p' l a b c page → Known p' r' → is_asked p' ≡ is_asked p → (l == 27) ≡ false → Leads p next
   to p p' r' l a b c page e row f same n = subst (λ next. Leads p next) (sym e) (to_row p' l a b c page row f same n refl)
 
   -- ---- the branches

@@ -8,7 +8,7 @@ use Rattle.run_model.specs.Moves.{Moves, run}
 use Rattle.run_model.specs.Restarts.{from_restart}
 use Rattle.run_model.specs.OwnLaws.{Accepted, Preserved, puts_of, OwnIs, OwnFollows}
 use Rattle.own_laws.proofs.OwnSide.{OwnSide, in_program, Follows, follows, run-goes}
-use Rattle.own_laws.proofs.Reached.{Fixes, Fixes-counts_of, false_true}
+use Rattle.own_laws.proofs.Reached.{Fixes, Fixes-counts_of, none_some, false_true}
 use Rattle.own_laws.proofs.Side.{side_of, tally_of}
 
 -- the own side of a run of an accepted program is at one of its stages
@@ -17,12 +17,6 @@ unfolding state_after
 own_side w a ms =
     run-goes w a ms (opened_run w)
     (in_program (tally_of (opened_run w)) 0 w.image.start w.image.start _ (record { plain = λ taken h. refl; since = λ o e. none_some e; began = refl }) a.fresh refl)
-  where
-    none_some : {A : Type 0} {o : State} → None ≡ Some o → A
-    none_some {A} {o} e = absurd (no e)
-      where
-        no : None ≡ Some o → ⊥
-        no e = cc
 
 -- ---- preservation
 
@@ -34,7 +28,11 @@ preserves w a ms =
     let err : r.own.err ≡ f.state.err = ap (λ (s : State). s.err) f.own in
     record {
       state = f.state;
-      reached = f.reached.plain (puts_of r) (subst (λ (o : Output). Fixes (puts_of r).out o.puts) out (Fixes-counts_of r.own.out.puts), subst (λ (o : Output). Fixes (puts_of r).err o.puts) err (Fixes-counts_of r.own.err.puts));
+      reached =
+          f.reached.plain (puts_of r) (
+            subst (λ (o : Output). Fixes (puts_of r).out o.puts) out (Fixes-counts_of r.own.out.puts),
+            subst (λ (o : Output). Fixes (puts_of r).err o.puts) err (Fixes-counts_of r.own.err.puts),
+          );
       calls = ap (λ (s : State). s.calls) f.own;
       out = out;
       err = err;

@@ -68,7 +68,8 @@ pub data OwnSide (w : World) (p : Side) : Type 0 where
   in_stub : (t : Tally) (q : State) (k a b c : ℕ) (page : Memory) → AtCall w t q → Row q.registers k a b c page → left k ≤ 64 → p ≡ stub_side q t k (three q.registers a b c) page → OwnSide w p
   at_call : (t : Tally) (q : State) (page : Memory) → AtCall w t q → p ≡ stub_side q t 26 q.registers page → OwnSide w p
   waits : (t : Tally) (q : State) (page : Memory) → AtCall w t q → p ≡ waiting_side q t page → OwnSide w p
-  called : (t : Tally) (q s : State) (taken : ℕ) (page : Memory) → Reached w t s → s.exited ≡ None → s ≡ performed w.files taken (plan w q) q → wrap (q.pc + 4) ≡ s.pc → p ≡ called_side q s t page → OwnSide w p
+  called : (t : Tally) (q s : State) (taken : ℕ) (page : Memory) → Reached w t s → s.exited ≡ None
+      → s ≡ performed w.files taken (plan w q) q → wrap (q.pc + 4) ≡ s.pc → p ≡ called_side q s t page → OwnSide w p
   over : (s : State) (e : RunEnd) → Reached w p.tally s → Over w s p e → OwnSide w p
 
 -- ---- what all stages have: a plain state that was reached, and that the own side has but for its registers and pc in the stub
@@ -90,14 +91,28 @@ stub_program {A} e = absurd (no e)
 some_none : {X A : Type 0} {x : X} → Some x ≡ None → A
 some_none e = none_some (sym e)
 
+-- an own side that is this one, whose run goes on
+stays-follows : (w : World) (p p' : Side) (s : State) → p ≡ p' → Reached w p'.tally s → s.exited ≡ None → p'.end ≡ None
+    → p'.own ≡ record s { registers = p'.own.registers; pc = p'.own.pc } → (p'.view ≡ Program → p'.own ≡ s) → Follows w p
+stays-follows w p p' s is h f e own place =
+    subst (λ p. Follows w p) (sym is)
+    (record { state = s; reached = h; own = own; place = place; end = λ taken. subst (λ end. SameEnd end (end_of w.image w.files taken s)) (sym e) tt; goes_on = λ e. f })
+
 pub follows : (w : World) (p : Side) → OwnSide w p → Follows w p
-follows w p (in_program t site gate s page h f is) = subst (λ p. Follows w p) (sym is) (record { state = s; reached = h; own = refl; place = λ e. refl; end = λ taken. tt; goes_on = λ e. f })
-follows w p (in_stub t q k a b c page g row most is) = subst (λ p. Follows w p) (sym is) (record { state = q; reached = g.reached; own = refl; place = λ e. stub_program e; end = λ taken. tt; goes_on = λ e. g.going })
-follows w p (at_call t q page g is) = subst (λ p. Follows w p) (sym is) (record { state = q; reached = g.reached; own = refl; place = λ e. stub_program e; end = λ taken. tt; goes_on = λ e. g.going })
-follows w p (waits t q page g is) = subst (λ p. Follows w p) (sym is) (record { state = q; reached = g.reached; own = refl; place = λ e. stub_program e; end = λ taken. tt; goes_on = λ e. g.going })
-follows w p (called t q s k page h f z n is) = subst (λ p. Follows w p) (sym is) (record { state = s; reached = h; own = refl; place = λ e. stub_program e; end = λ taken. tt; goes_on = λ e. f })
+follows w p (in_program t site gate s page h f is) = stays-follows w p _ s is h f refl refl (λ e. refl)
+follows w p (in_stub t q k a b c page g row most is) = stays-follows w p _ q is g.reached g.going refl refl (λ e. stub_program e)
+follows w p (at_call t q page g is) = stays-follows w p _ q is g.reached g.going refl refl (λ e. stub_program e)
+follows w p (waits t q page g is) = stays-follows w p _ q is g.reached g.going refl refl (λ e. stub_program e)
+follows w p (called t q s k page h f z n is) = stays-follows w p _ s is h f refl refl (λ e. stub_program e)
 follows w p (over s e h o) =
-    record { state = s; reached = h; own = o.own; place = o.place; end = λ taken. subst (λ end. SameEnd end (end_of w.image w.files taken s)) (sym o.ended) (o.same taken); goes_on = λ z. some_none (sym o.ended ∙ z) }
+    record {
+      state = s;
+      reached = h;
+      own = o.own;
+      place = o.place;
+      end = λ taken. subst (λ end. SameEnd end (end_of w.image w.files taken s)) (sym o.ended) (o.same taken);
+      goes_on = λ z. some_none (sym o.ended ∙ z);
+    }
 
 module _ (w : World) where
   -- ---- a word of the program

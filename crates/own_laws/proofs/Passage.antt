@@ -111,7 +111,8 @@ module _ (w : World) (accepted : Accepted w) where
   own-enters x r (called t q s k page h f y n is) p z v = program_stub (sym p ∙ ap (λ p. p.view) is)
   own-enters x r (over s e h o) p z v = none_some (sym z ∙ o.ended)
 
-  step-enters : (x : Answer) (r : Run) (e : Option RunEnd) → r.end ≡ e → OwnSide w (side_of r) → r.view ≡ Program → (step_unless e w r (O, x)).view ≡ Stub → Entered w r (step_unless e w r (O, x))
+  step-enters : (x : Answer) (r : Run) (e : Option RunEnd) → r.end ≡ e → OwnSide w (side_of r) → r.view ≡ Program
+      → (step_unless e w r (O, x)).view ≡ Stub → Entered w r (step_unless e w r (O, x))
   step-enters x r (Some e) z h p v = program_stub (sym p ∙ v)
   step-enters x r None z h p v =
       let y = own-enters x (begun r) h p z v in

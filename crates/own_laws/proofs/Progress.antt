@@ -226,6 +226,12 @@ module _ (w : World) (accepted : Accepted w) where
       by_done rest mid k (inl o) (inr l) = inl (over_stays rest mid k o)
       by_done rest mid k (inr n) (inr l) = inr (omega (arith, n, l))
 
+-- in every run that goes on, the own hart is stalled exactly where a block is demanded, and then its read has fewer than 17 blocks
+pub run-demand : (w : World) → Accepted w → (ms : Moves) → (run w ms).end ≡ None → Demand (run w ms)
+unfolding run_from
+run-demand w a ms z =
+    (all_keeps w a ms (opened_run w) (record { side = own_side w a []; demand = λ z. record { same = refl; room = λ e. false_true e } })).demand z
+
 pub progresses : Progress
 unfolding run_from
 progresses w a q ms s =

@@ -93,7 +93,8 @@ tally_after false q t = t
 
 -- a word leads to a row with fewer words left, or to the call with the program's own registers; the cache is left
 pub data WordGoes (q : State) (t : Tally) (k : ℕ) (cache : Cache) (next : Run) : Type 0 where
-  to_row : (restarts : Bool) (l a b c : ℕ) (page : Memory) → Row q.registers l a b c page → side_of next ≡ stub_side q (tally_after restarts q t) l (three q.registers a b c) page → left l < left k → next.cache ≡ cache → WordGoes q t k cache next
+  to_row : (restarts : Bool) (l a b c : ℕ) (page : Memory) → Row q.registers l a b c page
+      → side_of next ≡ stub_side q (tally_after restarts q t) l (three q.registers a b c) page → left l < left k → next.cache ≡ cache → WordGoes q t k cache next
   to_call : (page : Memory) → side_of next ≡ stub_side q t 26 q.registers page → left 26 < left k → next.cache ≡ cache → WordGoes q t k cache next
 
 -- ---- saves
@@ -136,7 +137,8 @@ in_log a =
 
 module _ (w : World) (x : Answer) (q : State) (t : Tally) (fits : (n : ℕ) → q.registers n < 2 ^ 64) where
   -- a word that leads to a row
-  to : {next : Run} (r r' : Run) (k l a b c : ℕ) (page : Memory) → next ≡ at q t r' l a b c page → Row q.registers l a b c page → left l < left k → r'.cache ≡ r.cache → WordGoes q t k r.cache next
+  to : {next : Run} (r r' : Run) (k l a b c : ℕ) (page : Memory)
+      → next ≡ at q t r' l a b c page → Row q.registers l a b c page → left l < left k → r'.cache ≡ r.cache → WordGoes q t k r.cache next
   to r r' k l a b c page e row less same = subst (λ n. WordGoes q t k r.cache n) (sym e) (to_row false l a b c page row refl less same)
 
   branch_3 : (b : Bool) (r : Run) (c : ℕ) (page : Memory) → Saved31 page q.registers → WordGoes q t 3 r.cache (at q t r (branched b 25 4) (q.registers 29) (q.registers 30) c page)
@@ -197,7 +199,8 @@ module _ (w : World) (x : Answer) (q : State) (t : Tally) (fits : (n : ℕ) → 
   word_goes r _ a b c page (w23 s) = to r r 23 24 _ b c page (word_23 w x q t r a b c page) (subst (λ n. Row q.registers 24 n b c page) (sym s.x29) (w24 (record { x31 = s.x31; x30 = s.x30 }))) (lit< tt) refl
   word_goes r _ a b c page (w24 s) = to r r 24 25 _ _ c page (word_24 w x q t r _ b c page) (subst (λ n. Row q.registers 25 (q.registers 29) n c page) (sym s.x30) (w25 s.x31)) (lit< tt) refl
   word_goes r _ a b c page (w25 s) =
-      subst (λ n. WordGoes q t 25 r.cache n) (sym (word_25 w x q t r _ _ c page ∙ ap (λ n. at q t r 26 (q.registers 29) (q.registers 30) n page) s ∙ ap (λ rs. with_side r (stub_side q t 26 rs page)) (three-own q.registers)))
+      subst (λ n. WordGoes q t 25 r.cache n)
+      (sym (word_25 w x q t r _ _ c page ∙ ap (λ n. at q t r 26 (q.registers 29) (q.registers 30) n page) s ∙ ap (λ rs. with_side r (stub_side q t 26 rs page)) (three-own q.registers)))
       (to_call page refl (lit< tt) refl)
   word_goes r _ a b c page (w28 s) = to r (stopped w x q t r) 28 29 a b c page (word_28 w x q t r a b c page) (w29 s) (lit< tt) refl
   word_goes r _ a b c page (w29 s) = to r r 29 30 a _ c page (word_29 w x q t r a b c page) (w30 s) (lit< tt) refl
@@ -208,7 +211,9 @@ module _ (w : World) (x : Answer) (q : State) (t : Tally) (fits : (n : ℕ) → 
   word_goes r _ a b c page (w34 s) = to r (linked w x q t r 0x4200_1000 b) 34 35 a b _ page (word_34 w x q t r a b 0 page) (w35 s) (lit< tt) refl
   word_goes r _ a b c page (w35 s) = to r r 35 36 a _ _ page (word_35 w x q t r a b _ page) (subst (λ n. Row q.registers 36 a n 0x4200_1000 page) (sym s.x30) (w36 s)) (lit< tt) refl
   word_goes r _ a b c page (w36 s) =
-      to r r 36 (37 + 0) _ _ _ page (word_36 w x q t r a _ _ page) (subst (λ n. Row q.registers (37 + 0) n (q.registers 30) 0x4200_1000 page) (sym s.x29) (w37-66 0 (lit< tt) (record { x31 = s.x31; x30 = s.x30 }))) (lit< tt) refl
+      to r r 36 (37 + 0) _ _ _ page (word_36 w x q t r a _ _ page)
+      (subst (λ n. Row q.registers (37 + 0) n (q.registers 30) 0x4200_1000 page) (sym s.x29) (w37-66 0 (lit< tt) (record { x31 = s.x31; x30 = s.x30 })))
+      (lit< tt) refl
   word_goes r _ a b c page (w37-66 j h s) = next_register r j page h s (cases_lt (j + 1) 30)
   word_goes r _ a b c page (w67 s) = to r r 67 68 _ _ _ page (word_67 w x q t r _ _ _ page) (w68 s) (lit< tt) refl
   word_goes r _ a b c page (w68 s) = to r (linked w x q t r 0x4200_10F8 b) 68 69 _ b _ page (word_68 w x q t r _ b 0 page) (w69 s) (lit< tt) refl

@@ -165,7 +165,8 @@ module _ (w : World) (x : Answer) (q : State) (t : Tally) where
   branch_goes : (t? : Bool) (r : Run) (k l m a b c : ℕ) (page : Memory) (pc target : ℕ) → wrap (pc + 4) ≡ 0x417F_FFFC + 4 * m → (target % 4 == 0) ≡ true → target ≡ 0x417F_FFFC + 4 * l
       → stub_after w x (here r k a b c page) (branch_if t? (three q.registers a b c) pc target) ≡ here r (branched t? l m) a b c page
   branch_goes true r k l m a b c page pc target next lawful is =
-      ap (λ e. stub_after w x (here r k a b c page) (jump_if e (three q.registers a b c) target)) lawful ∙ ap (λ n. with_side r (record (stub_side q t l (three q.registers a b c) page) { own = record q { registers = three q.registers a b c; pc = n } })) is
+      ap (λ e. stub_after w x (here r k a b c page) (jump_if e (three q.registers a b c) target)) lawful
+      ∙ ap (λ n. with_side r (record (stub_side q t l (three q.registers a b c) page) { own = record q { registers = three q.registers a b c; pc = n } })) is
   branch_goes false r k l m a b c page pc target next lawful is =
       ap (λ n. with_side r (record (stub_side q t m (three q.registers a b c) page) { own = record q { registers = three q.registers a b c; pc = n } })) next
 

@@ -67,8 +67,10 @@ pub record IsBoxed (link : Memory) (s : State) : Type 0 where
 -- what becomes of the log in a call with this key and count, and whether the shadow is restarted for it. A keyed call is judged at one moment, by the log as it is then
 pub data Outcome (q : State) (key count : ℕ) (before : Memory) : Bool → Memory → Type 0 where
   keyless : {after : Memory} → key ≡ 0 → Appends before after → Outcome q key count before false after
-  takes : {after : Memory} (judged : Memory) → 0 < key → Appends before judged → IsOldest judged key count → Appends (without_oldest judged) after → Outcome q key count before false after
-  empties : {after : Memory} (judged emptied : Memory) → 0 < key → Appends before judged → (IsOldest judged key count → ⊥) → IsEmpty emptied → IsBoxed emptied q → Appends emptied after → Outcome q key count before true after
+  takes : {after : Memory} (judged : Memory) → 0 < key → Appends before judged → IsOldest judged key count
+      → Appends (without_oldest judged) after → Outcome q key count before false after
+  empties : {after : Memory} (judged emptied : Memory) → 0 < key → Appends before judged → (IsOldest judged key count → ⊥)
+      → IsEmpty emptied → IsBoxed emptied q → Appends emptied after → Outcome q key count before true after
 
 -- ---- a passage
 
