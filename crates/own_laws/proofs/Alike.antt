@@ -17,6 +17,7 @@ use Rattle.code_model.specs.Patch.{patched_instr}
 
 -- ---- the same effect, but that a call is a gate
 
+-- an effect in which a call is a gate
 abbrev pub gated : Effect → Effect
 gated Called = Gated Hgate
 gated (Next rs pc) = Next rs pc
@@ -24,19 +25,23 @@ gated (Stored a width v) = Stored a width v
 gated (Trapped cause) = Trapped cause
 gated (Gated i) = Gated i
 
+-- a jump makes no call
 jump_if-gated : (b : Bool) (rs : Registers) (target : ℕ) → jump_if b rs target ≡ gated (jump_if b rs target)
 jump_if-gated true rs target = refl
 jump_if-gated false rs target = refl
 
+-- nor does a branch
 branch_if-gated : (b : Bool) (rs : Registers) (pc target : ℕ) → branch_if b rs pc target ≡ gated (branch_if b rs pc target)
 branch_if-gated true rs pc target = jump_if-gated (target % 4 == 0) rs target
 branch_if-gated false rs pc target = refl
 
+-- nor does a load
 load_if-gated : (x y : Bool) (m : Memory) (op : LoadOp) (rs : Registers) (pc rd a : ℕ) → load_if x y m op rs pc rd a ≡ gated (load_if x y m op rs pc rd a)
 load_if-gated false y m op rs pc rd a = refl
 load_if-gated true false m op rs pc rd a = refl
 load_if-gated true true m op rs pc rd a = refl
 
+-- nor does a store
 store_if-gated : (x y : Bool) (a width v : ℕ) → store_if x y a width v ≡ gated (store_if x y a width v)
 store_if-gated false y a width v = refl
 store_if-gated true false a width v = refl
@@ -71,6 +76,7 @@ module _ (r : Rights) (m : Memory) (rs : Registers) (pc : ℕ) where
 
 -- ---- no instruction of a plain program is a gate
 
+-- an effect that is no gate
 abbrev NoGateIn : Effect → Type 0
 NoGateIn (Gated i) = ⊥
 NoGateIn (Next rs pc) = ⊤
@@ -81,24 +87,29 @@ NoGateIn Called = ⊤
 pub record NoGate (e : Effect) : Type 0 where
   pub by : NoGateIn e
 
+-- a jump is no gate
 jump_if-no_gate : (b : Bool) (rs : Registers) (target : ℕ) → NoGate (jump_if b rs target)
 jump_if-no_gate true rs target = record { by = tt }
 jump_if-no_gate false rs target = record { by = tt }
 
+-- nor is a branch
 branch_if-no_gate : (b : Bool) (rs : Registers) (pc target : ℕ) → NoGate (branch_if b rs pc target)
 branch_if-no_gate true rs pc target = jump_if-no_gate (target % 4 == 0) rs target
 branch_if-no_gate false rs pc target = record { by = tt }
 
+-- nor is a load
 load_if-no_gate : (x y : Bool) (m : Memory) (op : LoadOp) (rs : Registers) (pc rd a : ℕ) → NoGate (load_if x y m op rs pc rd a)
 load_if-no_gate false y m op rs pc rd a = record { by = tt }
 load_if-no_gate true false m op rs pc rd a = record { by = tt }
 load_if-no_gate true true m op rs pc rd a = record { by = tt }
 
+-- nor is a store
 store_if-no_gate : (x y : Bool) (a width v : ℕ) → NoGate (store_if x y a width v)
 store_if-no_gate false y a width v = record { by = tt }
 store_if-no_gate true false a width v = record { by = tt }
 store_if-no_gate true true a width v = record { by = tt }
 
+-- in the plain view no instruction is a gate
 pub effect-no_gate : (r : Rights) (m : Memory) (rs : Registers) (pc : ℕ) (i : Instr) → NoGate (effect Plain r m rs pc i)
 effect-no_gate r m rs pc (Jal rd imm) = jump_if-no_gate _ _ _
 effect-no_gate r m rs pc (Jalr rd rs1 imm) = jump_if-no_gate _ _ _

@@ -22,25 +22,30 @@ use Rattle.program_model.specs.PlainRun.{State, Image, Taken, Step, Went, Traps,
 use Rattle.run_model.specs.OwnLaws.{AllBytes}
 use Rattle.own_laws.proofs.Results.{Bytes, load-small, imm_result-small, imm_w_result-small, reg_result-small, reg_w_result-small, wrap-small, word_of_int-small}
 
+-- each register is below 2^64
 abbrev pub Words : Registers → Type 0
 Words rs = (i : ℕ) → rs i < 2 ^ 64
 
 -- ---- registers
 
+-- what both choices are below, the chosen one is below
 elim-below : (b : Bool) (x y k : ℕ) → x < k → y < k → elim b [ true ↦ x | false ↦ y ] < k
 elim-below true x y k h l = h
 elim-below false x y k h l = l
 
+-- a register reads as a number below 2^64
 reg-small : (rs : Registers) (n : ℕ) → Words rs → reg rs n < 2 ^ 64
 reg-small rs zero h = lit< tt
 reg-small rs (suc n) h = h (suc n)
 
+-- a write of a number below 2^64 keeps the registers below it
 pub with_reg-words : (rs : Registers) (n v : ℕ) → Words rs → v < 2 ^ 64 → Words (with_reg rs n v)
 with_reg-words rs zero v h l = h
 with_reg-words rs (suc n) v h l = λ i. elim-below (i == suc n) v (rs i) (2 ^ 64) l (h i)
 
 -- ---- the effect of an instruction
 
+-- an effect leaves registers below 2^64
 abbrev WordsIn : Effect → Type 0
 WordsIn (Next rs pc) = Words rs
 WordsIn (Stored a width v) = ⊤
@@ -51,19 +56,23 @@ WordsIn (Gated i) = ⊤
 record WordsAfter (e : Effect) : Type 0 where
   by : WordsIn e
 
+-- a jump does
 jump_if-words : (b : Bool) (rs : Registers) (target : ℕ) → Words rs → WordsAfter (jump_if b rs target)
 jump_if-words true rs target h = record { by = h }
 jump_if-words false rs target h = record { by = tt }
 
+-- a branch does
 branch_if-words : (b : Bool) (rs : Registers) (pc target : ℕ) → Words rs → WordsAfter (branch_if b rs pc target)
 branch_if-words true rs pc target h = jump_if-words (target % 4 == 0) rs target h
 branch_if-words false rs pc target h = record { by = h }
 
+-- a load does, from bytes
 load_if-words : (x y : Bool) (m : Memory) (op : LoadOp) (rs : Registers) (pc rd a : ℕ) → Words rs → Bytes m → WordsAfter (load_if x y m op rs pc rd a)
 load_if-words false y m op rs pc rd a h k = record { by = tt }
 load_if-words true false m op rs pc rd a h k = record { by = tt }
 load_if-words true true m op rs pc rd a h k = record { by = with_reg-words rs rd (extended op (loaded m a (load_width op))) h (load-small op m a k) }
 
+-- a store leaves the registers
 store_if-words : (x y : Bool) (a width v : ℕ) → WordsAfter (store_if x y a width v)
 store_if-words false y a width v = record { by = tt }
 store_if-words true false a width v = record { by = tt }
@@ -74,6 +83,7 @@ module _ (r : Rights) (m : Memory) (rs : Registers) (pc : ℕ) (h : Words rs) (k
   puts : (rd v : ℕ) → v < 2 ^ 64 → Words (with_reg rs rd v)
   puts rd v l = with_reg-words rs rd v h l
 
+  -- each instruction leaves registers below 2^64
   effect-words : (i : Instr) → WordsAfter (effect Plain r m rs pc i)
   effect-words (Lui rd imm) = record { by = puts rd _ (word_of_int-small imm) }
   effect-words (Auipc rd imm) = record { by = puts rd _ (wrap-small (pc + word_of_int imm)) }
@@ -91,13 +101,16 @@ module _ (r : Rights) (m : Memory) (rs : Registers) (pc : ℕ) (h : Words rs) (k
 
 -- ---- memory
 
+-- a byte of a number is below 256
 byte_of-below : (v i : ℕ) → byte_of v i < 256
 byte_of-below v i = omega arith
 
+-- bytes patched into bytes are bytes
 patched-bytes : (m : Memory) (base n : ℕ) (f : Memory) → Bytes m → Bytes f → Bytes (patched m base n f)
 unfolding patched
 patched-bytes m base n f h k a = elim-below (is_within base n a) (f (a - base)) (m a) 256 (k (a - base)) (h a)
 
+-- an item of a list of bytes is a byte, and so is the 0 past its end
 get_or-below : (bytes : List ℕ) → AllBytes bytes → (i : ℕ) → get_or bytes i 0 < 256
 get_or-below bytes h i = by_case (cases_lt i (length bytes))
   where
@@ -109,6 +122,7 @@ get_or-below bytes h i = by_case (cases_lt i (length bytes))
 abbrev pub FileBytes : Files → Type 0
 FileBytes files = (name : Name) (bytes : List ℕ) → files name ≡ Some bytes → AllBytes bytes
 
+-- a read gives bytes
 bytes_read-below : (files : Files) (spot : ReadSpot) → FileBytes files → AllBytes (bytes_read files spot)
 bytes_read-below files spot h = by_content (files spot.name) refl
   where
@@ -123,15 +137,18 @@ pub record Sized (s : State) : Type 0 where
   pub registers : Words s.registers
   pub memory : Bytes s.memory
 
+-- a step leads to a sized state, if to any
 abbrev SizedIn : Step → Type 0
 SizedIn (Went s) = Sized s
 SizedIn (Traps cause) = ⊤
 
+-- a sized state, if there is one
 abbrev SizedOption : Option State → Type 0
 SizedOption None = ⊤
 SizedOption (Some s) = Sized s
 
 module _ (files : Files) (h : FileBytes files) where
+  -- a call leads from a sized state to a sized one
   performed-sized : (taken : ℕ) (plan : CallPlan) (s : State) → Sized s → Sized (performed files taken plan s)
   performed-sized taken (Set f answer) s z = record { registers = with_reg-words s.registers 10 _ z.registers (word_of_int-small answer); memory = z.memory }
   performed-sized taken (Look name) s z = record { registers = with_reg-words s.registers 10 _ z.registers (word_of_int-small _); memory = z.memory }
@@ -145,6 +162,7 @@ module _ (files : Files) (h : FileBytes files) where
   performed-sized taken (Exit code) s z = record { registers = z.registers; memory = z.memory }
 
   module _ (p : Image) (t : Taken) where
+    -- each effect does
     after_effect-sized : (s : State) (e : Effect) → Sized s → WordsAfter e → SizedIn (after_effect p files t s e)
     after_effect-sized s (Next rs pc) z b = record { registers = b.by; memory = z.memory }
     after_effect-sized s (Stored a width v) z b = record { registers = z.registers; memory = patched-bytes s.memory a width (byte_of v) z.memory (byte_of-below v) }
@@ -152,22 +170,27 @@ module _ (files : Files) (h : FileBytes files) where
     after_effect-sized s Called z b = performed-sized (taken_by t (plan_of p.layout s) s) (plan_of p.layout s) s z
     after_effect-sized s (Gated i) z b = tt
 
+    -- each instruction does
     at_word-sized : (s : State) (o : Option Instr) → Sized s → SizedIn (at_word p files t s o)
     at_word-sized s None z = tt
     at_word-sized s (Some i) z = after_effect-sized s _ z (effect-words (data_rights p.layout) s.memory s.registers s.pc z.registers z.memory i)
 
+    -- the completed step does
     completed-sized : (step : Step) → SizedIn step → SizedOption (completed step)
     completed-sized (Went s) z = z
     completed-sized (Traps cause) z = tt
 
+    -- so the next state is sized, if there is one
     next_unless-sized : (exited : Option ℕ) (s : State) → Sized s → SizedOption (next_unless exited p files t s)
     next_unless-sized (Some code) s z = tt
     next_unless-sized None s z = completed-sized (next p files t s) (at_word-sized s (fetched (text_of p) p.layout.text_start s.pc) z)
 
+    -- and the one after a state that may be there
     next-sized : (o : Option State) → SizedOption o → SizedOption (option_and_then (next_state p files t) o)
     next-sized None z = tt
     next-sized (Some s) z = next_unless-sized s.exited s z
 
+    -- each state of the run is sized, if it is there
     state_after-sized : (start : State) (n : ℕ) → Sized start → SizedOption (state_after p files t start n)
     unfolding state_after
     state_after-sized start zero z = z

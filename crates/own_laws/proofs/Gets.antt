@@ -48,6 +48,7 @@ module _ (w : World) (x : Answer) where
         let e : rank (side_of (entered here)) ≡ left 1 + call_rank false t.gathered = rank-stub s s (record t { asked = false }) false 1 s.registers page in
         lower refl (omega (arith, e, rank-program (side_of here) refl, call_rank-most false t.gathered)) (record { same = d.same; room = d.room })
 
+    -- each effect of an instruction gets on
     after_effect-gets : (e : Effect) → Demand here → Gets here (program_after here (gated e))
     after_effect-gets (Next rs pc) d = done refl (record { same = d.same; room = d.room })
     after_effect-gets (Stored a width v) d = done refl (record { same = d.same; room = d.room })
@@ -55,12 +56,14 @@ module _ (w : World) (x : Answer) where
     after_effect-gets Called d = gate-gets d
     after_effect-gets (Gated i) d = gate-gets d
 
+    -- each word of the program does
     word-gets : (o : Option Instr) → Demand here → Gets here (program_at w here (option_map patched_instr o))
     word-gets None d = ends refl
     word-gets (Some i) d =
         subst (λ e. Gets here (program_after here e)) (sym (effect-patched (data_rights w.image.layout) s.memory s.registers s.pc i))
         (after_effect-gets (effect Plain (data_rights w.image.layout) s.memory s.registers s.pc i) d)
 
+    -- each own move in the program does
     program-gets : Demand here → Gets here (program_step w here)
     program-gets d =
         subst (λ o. Gets here (program_at w here o)) (sym (fetched-map patched_instr (text_of w.image) w.image.layout.text_start s.pc))
@@ -69,9 +72,11 @@ module _ (w : World) (x : Answer) where
   -- ---- the call
 
   module _ (base : Run) (t : Tally) (q : State) (page : Memory) where
+    -- the run at the call
     abbrev the_call : Run
     the_call = with_side base (stub_side q t 26 q.registers page)
 
+    -- a read gets on: it has its blocks, or waits for one with more of them than before
     read-gets : (b : Bool) (d : ℕ) (spot : ReadSpot) (a : ℕ) (had : Gathered) → had.waits ≡ b → spot.count ≤ 65536 → Demand the_call
         → GatherOf base.cache t.gathered (length (drop t.gathered (blocks_of spot))) had → Gets the_call (read_on b w d spot a had the_call)
     read-gets true d spot a had e small m g =
@@ -83,22 +88,26 @@ module _ (w : World) (x : Answer) where
         lower refl (omega (arith, g.more, few, now, later)) (record { same = sym y.0; room = λ z. few })
     read-gets false d spot a had e small m g = done refl (calm _ refl (ap is_some (g.here e) ∙ sym m.same))
 
+    -- a look gets on
     look-gets : (x : Answer) (name : List ℕ) → Demand the_call → Gets the_call (look_done w x the_call name)
     look-gets Failed name d = ends refl
     look-gets Usual name d = done refl (calm _ refl (sym d.same))
     look-gets (Took k) name d = done refl (calm _ refl (sym d.same))
     look-gets Lost name d = done refl (calm _ refl (sym d.same))
 
+    -- a put gets on
     put-gets : (to_out : Bool) (a n k : ℕ) → Demand the_call → Gets the_call (write_done w k to_out a n the_call)
     put-gets true a n k d = done refl (calm _ refl (sym d.same))
     put-gets false a n k d = done refl (calm _ refl (sym d.same))
 
+    -- a write gets on
     write-gets : (x : Answer) (to_out : Bool) (a n : ℕ) → Demand the_call → Gets the_call (write_step w x the_call to_out a n)
     write-gets Failed to_out a n d = ends refl
     write-gets Usual to_out a n d = put-gets to_out a n _ d
     write-gets (Took k) to_out a n d = put-gets to_out a n _ d
     write-gets Lost to_out a n d = put-gets to_out a n _ d
 
+    -- each call gets on
     call-gets : (c : CallPlan) → Small c → Demand the_call → Gets the_call (call_step w x the_call c)
     call-gets (Set files answer) small d = done refl (calm _ refl (sym d.same))
     call-gets (Look name) small d = look-gets x name d
@@ -110,10 +119,12 @@ module _ (w : World) (x : Answer) where
 
   -- ---- a word of the stub
 
+  -- a restart leaves what is done, and the gathered blocks
   tally_after-same : (b : Bool) (q : State) (t : Tally) → ((tally_after b q t).done ≡ t.done) × ((tally_after b q t).gathered ≡ t.gathered)
   tally_after-same true q t = (refl, refl)
   tally_after-same false q t = (refl, refl)
 
+  -- each word of the stub leaves fewer words
   word-lowers : (r next : Run) (q : State) (t : Tally) (k : ℕ) (rs : Memory) (page : Memory)
       → side_of r ≡ stub_side q t k rs page → is_some r.cache.demanded ≡ false → WordGoes q t k r.cache next → Gets r next
   word-lowers r next q t k rs page e f (to_row b l x29 x30 x31 page' row is less same) =
@@ -129,6 +140,7 @@ module _ (w : World) (x : Answer) where
   -- ---- an own move
 
   module _ (accepted : Accepted w) where
+    -- each own move of a hart that isn't stalled gets on
     own-gets : (r : Run) → OwnSide w (side_of r) → Demand r → r.stalled ≡ false → r.end ≡ None → Gets r (own_step w x r)
     own-gets r (in_program t site gate s page h f is) d n z = placed w (λ r. Demand r → Gets r (own_step w x r)) r _ is (program-gets r t site gate s page) d
     own-gets r (in_stub t q k a b c page g row most is) d n z =
@@ -160,14 +172,17 @@ module _ (w : World) (x : Answer) where
       ∙ rank-stub q q (record t { gathered = t.gathered + 1 }) false 26 q.registers page in
       (omega (arith, now, had), omega (arith, later, had))
 
+  -- once the demanded block has landed none is demanded
   landed_from-none : (o : Option BlockSpot) (c : Cache) → c.demanded ≡ o → is_some o ≡ true → is_some (landed_from o c).demanded ≡ false
   landed_from-none (Some b) c e f = refl
   landed_from-none None c e f = false_true f
 
+  -- a demanded block is in flight
   flight_of-demanded : (o : Option BlockSpot) (queue : List BlockSpot) → is_some o ≡ true → is_some (flight_of o queue) ≡ true
   flight_of-demanded (Some b) queue e = refl
   flight_of-demanded None queue e = false_true e
 
+  -- the landing of the demanded block gets on
   landed-gets : (o : Option BlockSpot) (r : Run) (notes : List Note)
       → r.cache.demanded ≡ o → is_some o ≡ true → OwnSide w (side_of r) → Demand r → r.stalled ≡ true → r.end ≡ None → Gets r (landed_with o r notes)
   landed-gets None r notes p f h d n z = false_true f
@@ -175,48 +190,58 @@ module _ (w : World) (x : Answer) where
       let y = waiting r h n z in
       lower refl (omega (arith, y.0, y.1, d.room n)) (calm _ refl (landed_from-none r.cache.demanded r.cache refl (ap is_some p)))
 
+  -- so it does where the block is kept
   cached_too-gets : (r next : Run) (spot : BlockSpot) → Gets r next → Gets r (cached_too next spot)
   cached_too-gets r next spot (done e d) = done e (record { same = d.same; room = d.room })
   cached_too-gets r next spot (ends e) = ends e
   cached_too-gets r next spot (lower e l d) = lower e l (record { same = d.same; room = d.room })
 
+  -- its failure ends the run
   failed-gets : (o : Option BlockSpot) (r : Run) (spot : BlockSpot) → is_some o ≡ true → Gets r (fetch_failed o r spot)
   failed-gets (Some b) r spot f = ends refl
   failed-gets None r spot f = false_true f
 
+  -- the end of its fetch gets on, whatever is answered
   ends-gets : (x : Answer) (r : Run) (spot : BlockSpot) → OwnSide w (side_of r) → Demand r → r.stalled ≡ true → r.end ≡ None → Gets r (fetch_ends w x r spot)
   ends-gets Failed r spot h d n z = failed-gets r.cache.demanded r spot (sym d.same ∙ n)
   ends-gets Lost r spot h d n z = landed-gets r.cache.demanded r _ refl (sym d.same ∙ n) h d n z
   ends-gets Usual r spot h d n z = cached_too-gets r _ spot (landed-gets r.cache.demanded r _ refl (sym d.same ∙ n) h d n z)
   ends-gets (Took k) r spot h d n z = cached_too-gets r _ spot (landed-gets r.cache.demanded r _ refl (sym d.same ∙ n) h d n z)
 
+  -- each fetch of a stalled hart gets on
   fetch-gets : (o : Option BlockSpot) (r : Run) → is_some o ≡ true → OwnSide w (side_of r) → Demand r → r.stalled ≡ true → r.end ≡ None → Gets r (fetch_of o w x r)
   fetch-gets None r f h d n z = false_true f
   fetch-gets (Some spot) r f h d n z = ends-gets x r spot h d n z
 
   -- ---- a fetch while nothing is demanded
 
+  -- the own side is left, and nothing is demanded
   abbrev Quiet : Run → Run → Type 0
   Quiet r r' = (side_of r' ≡ side_of r) × (is_some r'.cache.demanded ≡ false)
 
+  -- where nothing is demanded, nothing is after a landing
   landed_from-calm : (o : Option BlockSpot) (c : Cache) → is_some c.demanded ≡ false → is_some (landed_from o c).demanded ≡ false
   landed_from-calm (Some b) c f = refl
   landed_from-calm None c f = f
 
+  -- a landing is quiet
   landed-quiet : (o : Option BlockSpot) (r : Run) (notes : List Note) → is_some o ≡ false → is_some r.cache.demanded ≡ false → Quiet r (landed_with o r notes)
   landed-quiet (Some b) r notes e f = false_true (sym e)
   landed-quiet None r notes e f = (refl, landed_from-calm r.cache.demanded r.cache f)
 
+  -- so is the failure of a queued fetch
   failed-quiet : (o : Option BlockSpot) (r : Run) (spot : BlockSpot) → is_some o ≡ false → is_some r.cache.demanded ≡ false → Quiet r (fetch_failed o r spot)
   failed-quiet (Some b) r spot e f = false_true (sym e)
   failed-quiet None r spot e f = (refl, landed_from-calm r.cache.demanded r.cache f)
 
+  -- so is each end of a queued fetch
   ends-quiet : (x : Answer) (r : Run) (spot : BlockSpot) → is_some r.cache.demanded ≡ false → Quiet r (fetch_ends w x r spot)
   ends-quiet Failed r spot f = failed-quiet r.cache.demanded r spot f f
   ends-quiet Lost r spot f = landed-quiet r.cache.demanded r _ f f
   ends-quiet Usual r spot f = landed-quiet r.cache.demanded r (note.Fetch spot ∷ []) f f
   ends-quiet (Took k) r spot f = landed-quiet r.cache.demanded r (note.Fetch spot ∷ []) f f
 
+  -- so is each fetch
   fetch-quiet : (o : Option BlockSpot) (r : Run) → is_some r.cache.demanded ≡ false → Quiet r (fetch_of o w x r)
   fetch-quiet None r f = (refl, f)
   fetch-quiet (Some spot) r f = ends-quiet x r spot f
@@ -229,6 +254,7 @@ pub data Moved (r r' : Run) (m : Move) : Type 0 where
   idle : side_of r' ≡ side_of r → Demand r' → (m ≡ O → r.stalled ≡ true) → (m ≡ D → r.stalled ≡ false) → Moved r r' m
 
 module _ (w : World) (accepted : Accepted w) where
+  -- an own move gets on, or finds the hart stalled
   own-moved : (b : Bool) (x : Answer) (r : Run) → r.stalled ≡ b → OwnSide w (side_of r) → Demand r → r.end ≡ None → Moved r (own_unless b w x r) O
   own-moved true x r n h d z = idle refl d (λ e. n) (λ e. absurd (no e))
     where
@@ -236,6 +262,7 @@ module _ (w : World) (accepted : Accepted w) where
       no e = cc
   own-moved false x r n h d z = gets (subst (λ b. Gets r (own_unless b w x r)) n (own-gets w x accepted r h d n z))
 
+  -- a fetch gets on where the hart is stalled, and is idle else
   fetch-moved : (b : Bool) (x : Answer) (r : Run) → r.stalled ≡ b → OwnSide w (side_of r) → Demand r → r.end ≡ None → Moved r (fetch_step w x r) D
   fetch-moved true x r n h d z = gets (fetch-gets w x (in_flight r.cache) r (flight_of-demanded w x r.cache.demanded r.cache.queue (sym d.same ∙ n)) h d n z)
   fetch-moved false x r n h d z =
@@ -260,6 +287,7 @@ module _ (w : World) (accepted : Accepted w) where
   from_begun r r' m (gets (lower e l d)) = gets (lower e l d)
   from_begun r r' m (idle e d a b) = idle e d a b
 
+  -- each move of a run that goes on gets on or is idle
   pub move-moved : (r : Run) (m : Move) (x : Answer) → OwnSide w (side_of r) → Demand r → r.end ≡ None → Moved r (step w r (m, x)) m
   move-moved r O x h d z =
       subst (λ e. Moved r (step_unless e w r (O, x)) O) (sym z)

@@ -29,31 +29,37 @@ Keeps old new = kept_of new ≡ kept_of old
 
 -- ---- hints leave the demanded block
 
+-- a hint that joins the queue, or doesn't, leaves the demanded block
 hint_if-demanded : (b : Bool) (c : Cache) (spot : BlockSpot) → (hint_if b c spot).demanded ≡ c.demanded
 hint_if-demanded true c spot = refl
 hint_if-demanded false c spot = refl
 
+-- so do all hints of a read
 all_hinted-demanded : (depth : ℕ) (c : Cache) (spots : List BlockSpot) → (all_hinted depth c spots).demanded ≡ c.demanded
 all_hinted-demanded depth c [] = refl
 all_hinted-demanded depth c (spot ∷ spots) =
     all_hinted-demanded depth (hinted depth c spot) spots ∙ hint_if-demanded (is_idle_hint depth c spot) c spot
 
+-- a given hint keeps the own side
 hint_given-keeps : (unhinted : Bool) (spot : ReadSpot) (r : Run) → Keeps r (hint_given unhinted spot r)
 hint_given-keeps true spot r = refl
 hint_given-keeps false spot r = ap (λ d. record (kept_of r) { demanded = d }) (all_hinted-demanded 64 r.cache (blocks_of spot))
 
 -- ---- each part of a word of the shadow keeps the own side
 
+-- a fill changes the shadow's parts alone
 fill_if-keeps : (b : Bool) (w : World) (spot : ReadSpot) (a : ℕ) (r : Run) → Keeps r (fill_if b w spot a r)
 fill_if-keeps true w spot a r = refl
 fill_if-keeps false w spot a r = refl
 
+-- an assumed look keeps the own side, whatever is answered
 look_assumed-keeps : (w : World) (x : Answer) (r : Run) (name : List ℕ) → Keeps r (look_assumed w x r name)
 look_assumed-keeps w Failed r name = refl
 look_assumed-keeps w Usual r name = refl
 look_assumed-keeps w (Took k) r name = refl
 look_assumed-keeps w Lost r name = refl
 
+-- so does each assumed call
 assumed-keeps : (w : World) (x : Answer) (r : Run) (unhinted : Bool) (plan : CallPlan) → Keeps r (assumed w x r unhinted plan)
 assumed-keeps w x r unhinted (Set f answer) = refl
 assumed-keeps w x r unhinted (Look name) = look_assumed-keeps w x r name
@@ -63,16 +69,19 @@ assumed-keeps w x r unhinted (Read d spot a) =
 assumed-keeps w x r unhinted (Write to_out a n) = refl
 assumed-keeps w x r unhinted (Exit code) = refl
 
+-- so does each gate instruction
 gate-keeps : (w : World) (x : Answer) (r : Run) (i : Instr) → Keeps r (shadow_gate w x r i)
 gate-keeps w x r (Hkey rd) = refl
 gate-keeps w x r (Hcall unhinted) = assumed-keeps w x r unhinted (shadow_plan w r)
 gate-keeps w x r (Hpark cause) = refl
 gate-keeps w x r _ = refl
 
+-- so does a store
 stored-keeps : (b : Bool) (r : Run) (a width v : ℕ) → Keeps r (shadow_stored b r a width v)
 stored-keeps true r a width v = refl
 stored-keeps false r a width v = refl
 
+-- so does each effect
 after-keeps : (w : World) (x : Answer) (r : Run) (e : Effect) → Keeps r (shadow_after w x r e)
 after-keeps w x r (Next rs pc) = refl
 after-keeps w x r (Stored a width v) = stored-keeps (in_private a) r a width v
@@ -80,6 +89,7 @@ after-keeps w x r (Trapped cause) = refl
 after-keeps w x r (Gated i) = gate-keeps w x r i
 after-keeps w x r Called = refl
 
+-- so does the count of an arrival
 arrived_if-keeps : (b : Bool) (r : Run) → Keeps r (arrived_if b r)
 arrived_if-keeps true r = refl
 arrived_if-keeps false r = refl
@@ -89,22 +99,26 @@ abbrev shadow_effect : World → Run → Instr → Effect
 shadow_effect w r i =
     effect Shadow (shadow_rights w.image.layout) (shadow_sees w.image.layout (rewritten_words w) r.own.memory r.shared r.shadow_page) r.shadow.registers r.shadow.pc i
 
+-- so does each word
 word-keeps : (w : World) (x : Answer) (r : Run) (o : Option Instr) → Keeps r (shadow_at_word w x r o)
 word-keeps w x r None = refl
 word-keeps w x r (Some i) =
     let next : Run = shadow_after w x r (shadow_effect w r i) in
     arrived_if-keeps (is_running next.shadow.state && is_arrival w.image.layout next.shadow.pc) next ∙ after-keeps w x r (shadow_effect w r i)
 
+-- so does each word of a shadow that may run
 in-keeps : (s : ShadowState) (w : World) (x : Answer) (r : Run) → Keeps r (shadow_in s w x r)
 in-keeps Running w x r = word-keeps w x r (fetch_shadow w r.shadow.pc)
 in-keeps Never w x r = refl
 in-keeps Stopped w x r = refl
 in-keeps (Parked cause) w x r = refl
 
+-- and that may have to wait for a stall
 while-keeps : (b : Bool) (w : World) (x : Answer) (r : Run) → Keeps r (shadow_while b w x r)
 while-keeps true w x r = in-keeps r.shadow.state w x r
 while-keeps false w x r = refl
 
+-- so does each move of the shadow
 moved-keeps : (w : World) (x : Answer) (r : Run) (m : Move) → IsShadowMove m → Keeps r (moved w x r m)
 moved-keeps w x r S h = in-keeps r.shadow.state w x r
 moved-keeps w x r T h = while-keeps r.stalled w x r
@@ -130,6 +144,7 @@ abbrev look_heard : Bool → World → Run → List ℕ → Run
 look_heard true w r name = parked r park.Store
 look_heard false w r name = assumed_with r (opened r.shadow.files name (size_in w.files name))
 
+-- an assumed look hears no more
 look_assumed-heard : (w : World) (x : Answer) (r : Run) (name : List ℕ) → look_assumed w x r name ≡ look_heard (has_failed x) w r name
 look_assumed-heard w Failed r name = refl
 look_assumed-heard w Usual r name = refl
@@ -138,6 +153,7 @@ look_assumed-heard w Lost r name = refl
 
 -- two answers that agree in being a failure
 module _ (w : World) (x y : Answer) (same : has_failed x ≡ has_failed y) where
+  -- the same call is assumed
   assumed-alike : (r : Run) (unhinted : Bool) (plan : CallPlan) → assumed w x r unhinted plan ≡ assumed w y r unhinted plan
   assumed-alike r unhinted (Look name) = look_assumed-heard w x r name ∙ ap (λ b. look_heard b w r name) same ∙ sym (look_assumed-heard w y r name)
   assumed-alike r unhinted (Set f answer) = refl
@@ -145,12 +161,14 @@ module _ (w : World) (x y : Answer) (same : has_failed x ≡ has_failed y) where
   assumed-alike r unhinted (Write to_out a n) = refl
   assumed-alike r unhinted (Exit code) = refl
 
+  -- a gate instruction does the same
   gate-alike : (r : Run) (i : Instr) → shadow_gate w x r i ≡ shadow_gate w y r i
   gate-alike r (Hcall unhinted) = assumed-alike r unhinted (shadow_plan w r)
   gate-alike r (Hkey rd) = refl
   gate-alike r (Hpark cause) = refl
   gate-alike r _ = refl
 
+  -- an effect does the same
   after-alike : (r : Run) (e : Effect) → shadow_after w x r e ≡ shadow_after w y r e
   after-alike r (Gated i) = gate-alike r i
   after-alike r (Next rs pc) = refl
@@ -158,27 +176,32 @@ module _ (w : World) (x y : Answer) (same : has_failed x ≡ has_failed y) where
   after-alike r (Trapped cause) = refl
   after-alike r Called = refl
 
+  -- a word does the same
   word-alike : (r : Run) (o : Option Instr) → shadow_at_word w x r o ≡ shadow_at_word w y r o
   word-alike r None = refl
   word-alike r (Some i) =
       ap (λ (next : Run). arrived_if (is_running next.shadow.state && is_arrival w.image.layout next.shadow.pc) next) (after-alike r (shadow_effect w r i))
 
+  -- and a word of a shadow that may run
   in-alike : (s : ShadowState) (r : Run) → shadow_in s w x r ≡ shadow_in s w y r
   in-alike Running r = ap word_counted (word-alike r (fetch_shadow w r.shadow.pc))
   in-alike Never r = refl
   in-alike Stopped r = refl
   in-alike (Parked cause) r = refl
 
+  -- and that may have to wait for a stall
   while-alike : (b : Bool) (r : Run) → shadow_while b w x r ≡ shadow_while b w y r
   while-alike true r = in-alike r.shadow.state r
   while-alike false r = refl
 
+  -- a move of the shadow does the same
   moved-alike : (m : Move) (r : Run) → IsShadowMove m → moved w x r m ≡ moved w y r m
   moved-alike S r h = in-alike r.shadow.state r
   moved-alike T r h = while-alike r.stalled r
   moved-alike O r h = elim h [ ]
   moved-alike D r h = elim h [ ]
 
+  -- so does a step
   step-alike : (r : Run) (m : Move) → IsShadowMove m → step w r (m, x) ≡ step w r (m, y)
   step-alike r m h = by_end r.end
     where
@@ -188,6 +211,7 @@ module _ (w : World) (x y : Answer) (same : has_failed x ≡ has_failed y) where
 
 -- ---- the law
 
+-- the shadow is invisible
 pub shadow_is_invisible : ShadowIsInvisible
 shadow_is_invisible w r m x h =
     let kept : kept_of (step w r (m, x)) ≡ kept_begun r = shadow_move-keeps w r m x h in

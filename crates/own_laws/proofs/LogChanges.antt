@@ -10,9 +10,11 @@ use Rattle.own_laws.proofs.Patches.{loaded-below_patch, loaded-above_patch, load
 
 -- ---- appending
 
+-- nothing is appended
 pub Appends-same : (m : Memory) → log_tail m < 2 ^ 64 → Appends m m
 Appends-same m h = record { head = refl; tail = omega arith; below = h; pairs = λ i l u. refl }
 
+-- what is appended twice is appended
 pub Appends-again : (a b c : Memory) → Appends a b → Appends b c → Appends a c
 Appends-again a b c f g =
     record {
@@ -25,9 +27,11 @@ Appends-again a b c f g =
 -- ---- a store of the head
 
 module _ (m : Memory) (v : ℕ) where
+  -- the tail is left
   pub tail-head_stored : log_tail (stored m 0x4200_0000 8 v) ≡ log_tail m
   tail-head_stored = loaded-above_patch m 0x4200_0000 8 (byte_of v) 0x4200_0008 8 (omega arith)
 
+  -- the pairs are left
   logged-head_stored : (i : ℕ) → logged (stored m 0x4200_0000 8 v) i ≡ logged m i
   logged-head_stored i =
       ap₂ (λ (x y : ℕ). (x, y)) (loaded-above_patch m 0x4200_0000 8 (byte_of v) (log_place i) 8 (omega arith))
@@ -51,9 +55,11 @@ takes-oldest log m key count below o f =
 
 -- ---- the log is emptied
 
+-- a store of 0 to the head
 pub head-emptied : (m : Memory) → log_head (stored m 0x4200_0000 8 0) ≡ 0
 head-emptied m = loaded-stored m 0x4200_0000 0 (omega arith)
 
+-- a store of 0 to the tail empties a log whose head is 0
 pub tail-emptied : (m : Memory) → log_head m ≡ 0 → IsEmpty (stored m 0x4200_0008 8 0)
 tail-emptied m h =
     record {
@@ -76,6 +82,7 @@ pub record BoxedTo (link : Memory) (pc : ℕ) (rs : Registers) (j : ℕ) : Type 
   pub site : boxed_site link ≡ pc
   pub registers : (i : ℕ) → i ≤ j → boxed link i ≡ reg rs i
 
+-- a store of the site
 pub site_boxed : (m : Memory) (pc : ℕ) (rs : Registers) → pc < 2 ^ 64 → BoxedTo (stored m 0x4200_1000 8 pc) pc rs 0
 site_boxed m pc rs h = record { site = loaded-stored m 0x4200_1000 pc h; registers = λ i l. at i l }
   where
@@ -83,6 +90,7 @@ site_boxed m pc rs h = record { site = loaded-stored m 0x4200_1000 pc h; registe
     at zero l = refl
     at (suc i) l = absurd (omega arith)
 
+-- a store of the next register
 pub register_boxed : (m : Memory) (pc : ℕ) (rs : Registers) (j : ℕ) → rs (suc j) < 2 ^ 64 → BoxedTo m pc rs j → BoxedTo (stored m (0x4200_1000 + 8 * suc j) 8 (rs (suc j))) pc rs (suc j)
 register_boxed m pc rs j h b =
     record {

@@ -16,7 +16,7 @@ use Rattle.own_laws.specs.StubLaws.{Appends, IsOldest, IsEmpty, Outcome, keyless
 use Rattle.own_laws.proofs.LogChanges.{Appends-same, takes-oldest, head-emptied, tail-emptied, empty-box_stored, BoxedTo, site_boxed, register_boxed}
 use Rattle.own_laws.proofs.Patches.{loaded-stored}
 use Rattle.own_laws.proofs.Side.{side_of, with_side, Tally}
-use Rattle.own_laws.proofs.StubRows.{Saved31, Two, All, save31, save30, save29, save_key, in_log}
+use Rattle.own_laws.proofs.StubRows.{Saved31, SavedTwo, SavedAll, save31, save30, save29, save_key, in_log}
 use Rattle.own_laws.proofs.StubWords.{three, three-own, stub_side, at, restarted_tally, branched, after_word, linked, stopped, boxed_in, InLog, word_1, word_2, word_3, word_4, word_5, word_6, word_7, word_8, word_9, word_10, word_11, word_12, word_13, word_14, word_15, word_16, word_17, word_18, word_19, word_20, word_21, word_22, word_23, word_24, word_25, word_28, word_29, word_30, word_31, word_32, word_33, word_34, word_35, word_36, word_37-66, word_67, word_68, word_69, word_70, word_71}
 
 -- ---- what is known of the log
@@ -63,6 +63,7 @@ pub record Missed (key count : ℕ) (before log : Memory) : Type 0 where
   pub judged : Judged key before log
   pub other : IsOldest log key count → ⊥
 
+-- what is known of the log in a phase, of the link and of the shadow's state
 abbrev pub Fact : State → ℕ → ℕ → Memory → Phase → Memory → ShadowState → Type 0
 Fact q key count before fresh m s = Appends before m
 Fact q key count before keyed m s = (0 < key) × Appends before m
@@ -94,40 +95,40 @@ pub data LogRow (q : State) (key : ℕ) : Phase → ℕ → ℕ → ℕ → ℕ 
   r2 : {page : Memory} → Saved31 page q.registers → LogRow q key fresh 2 (q.registers 29) (q.registers 30) (q.registers 31) page
   r3 : {page : Memory} → Saved31 page q.registers → LogRow q key fresh 3 (q.registers 29) (q.registers 30) key page
   r4 : {page : Memory} → Saved31 page q.registers → LogRow q key keyed 4 (q.registers 29) (q.registers 30) key page
-  r5 : {page : Memory} → Two page q.registers → LogRow q key keyed 5 (q.registers 29) (q.registers 30) key page
-  r6 : {a b : ℕ} {page : Memory} → All page q.registers → LogRow q key keyed 6 a b key page
-  r7 : {a b c : ℕ} {page : Memory} → All page q.registers → Value page key → LogRow q key keyed 7 a b c page
-  r8 : {a c : ℕ} {page : Memory} → All page q.registers → Value page key → LogRow q key keyed 8 a 0x4200_0000 c page
-  r9 : {a c : ℕ} {page : Memory} → All page q.registers → Value page key → LogRow q key (headed a) 9 a 0x4200_0000 c page
-  r10 : {log page : Memory} → All page q.registers → Value page key → LogRow q key (judging log) 10 (log_head log) 0x4200_0000 (log_tail log) page
-  r11 : {c : ℕ} {log page : Memory} → All page q.registers → Value page key → LogRow q key (found log) 11 (log_head log) 0x4200_0000 c page
-  r12 : {log page : Memory} → All page q.registers → Value page key → LogRow q key (found log) 12 (log_head log) 0x4200_0000 (bit_and (log_head log) 63) page
-  r13 : {log page : Memory} → All page q.registers → Value page key → LogRow q key (found log) 13 (log_head log) 0x4200_0000 (wrap (bit_and (log_head log) 63 * 2 ^ 4)) page
-  r14 : {a b c : ℕ} {log page : Memory} → All page q.registers → Value page key → Place log c → LogRow q key (found log) 14 a b c page
-  r15 : {b c : ℕ} {log page : Memory} → All page q.registers → Value page key → Place log c → LogRow q key (found log) 15 ((logged log (log_head log)).0) b c page
-  r16 : {c : ℕ} {log page : Memory} → All page q.registers → Place log c → LogRow q key (found log) 16 ((logged log (log_head log)).0) key c page
-  r17 : {a b c : ℕ} {log page : Memory} → All page q.registers → Place log c → LogRow q key (matching log) 17 a b c page
-  r18 : {b c : ℕ} {log page : Memory} → All page q.registers → LogRow q key (matching log) 18 ((logged log (log_head log)).1) b c page
-  r19 : {a b c : ℕ} {log page : Memory} → All page q.registers → LogRow q key (oldest log) 19 a b c page
-  r20 : {a c : ℕ} {log page : Memory} → All page q.registers → LogRow q key (oldest log) 20 a 0x4200_0000 c page
-  r21 : {c : ℕ} {log page : Memory} → All page q.registers → LogRow q key (oldest log) 21 (log_head log) 0x4200_0000 c page
-  r22 : {c : ℕ} {log page : Memory} → All page q.registers → LogRow q key (oldest log) 22 (log_head log + 1) 0x4200_0000 c page
-  r23 : {a b c : ℕ} {page : Memory} → All page q.registers → LogRow q key (settled false) 23 a b c page
-  r24 : {b c : ℕ} {page : Memory} → Two page q.registers → LogRow q key (settled false) 24 (q.registers 29) b c page
+  r5 : {page : Memory} → SavedTwo page q.registers → LogRow q key keyed 5 (q.registers 29) (q.registers 30) key page
+  r6 : {a b : ℕ} {page : Memory} → SavedAll page q.registers → LogRow q key keyed 6 a b key page
+  r7 : {a b c : ℕ} {page : Memory} → SavedAll page q.registers → Value page key → LogRow q key keyed 7 a b c page
+  r8 : {a c : ℕ} {page : Memory} → SavedAll page q.registers → Value page key → LogRow q key keyed 8 a 0x4200_0000 c page
+  r9 : {a c : ℕ} {page : Memory} → SavedAll page q.registers → Value page key → LogRow q key (headed a) 9 a 0x4200_0000 c page
+  r10 : {log page : Memory} → SavedAll page q.registers → Value page key → LogRow q key (judging log) 10 (log_head log) 0x4200_0000 (log_tail log) page
+  r11 : {c : ℕ} {log page : Memory} → SavedAll page q.registers → Value page key → LogRow q key (found log) 11 (log_head log) 0x4200_0000 c page
+  r12 : {log page : Memory} → SavedAll page q.registers → Value page key → LogRow q key (found log) 12 (log_head log) 0x4200_0000 (bit_and (log_head log) 63) page
+  r13 : {log page : Memory} → SavedAll page q.registers → Value page key → LogRow q key (found log) 13 (log_head log) 0x4200_0000 (wrap (bit_and (log_head log) 63 * 2 ^ 4)) page
+  r14 : {a b c : ℕ} {log page : Memory} → SavedAll page q.registers → Value page key → Place log c → LogRow q key (found log) 14 a b c page
+  r15 : {b c : ℕ} {log page : Memory} → SavedAll page q.registers → Value page key → Place log c → LogRow q key (found log) 15 ((logged log (log_head log)).0) b c page
+  r16 : {c : ℕ} {log page : Memory} → SavedAll page q.registers → Place log c → LogRow q key (found log) 16 ((logged log (log_head log)).0) key c page
+  r17 : {a b c : ℕ} {log page : Memory} → SavedAll page q.registers → Place log c → LogRow q key (matching log) 17 a b c page
+  r18 : {b c : ℕ} {log page : Memory} → SavedAll page q.registers → LogRow q key (matching log) 18 ((logged log (log_head log)).1) b c page
+  r19 : {a b c : ℕ} {log page : Memory} → SavedAll page q.registers → LogRow q key (oldest log) 19 a b c page
+  r20 : {a c : ℕ} {log page : Memory} → SavedAll page q.registers → LogRow q key (oldest log) 20 a 0x4200_0000 c page
+  r21 : {c : ℕ} {log page : Memory} → SavedAll page q.registers → LogRow q key (oldest log) 21 (log_head log) 0x4200_0000 c page
+  r22 : {c : ℕ} {log page : Memory} → SavedAll page q.registers → LogRow q key (oldest log) 22 (log_head log + 1) 0x4200_0000 c page
+  r23 : {a b c : ℕ} {page : Memory} → SavedAll page q.registers → LogRow q key (settled false) 23 a b c page
+  r24 : {b c : ℕ} {page : Memory} → SavedTwo page q.registers → LogRow q key (settled false) 24 (q.registers 29) b c page
   r25 : {asked : Bool} {c : ℕ} {page : Memory} → Saved31 page q.registers → LogRow q key (settled asked) 25 (q.registers 29) (q.registers 30) c page
-  r28 : {a b c : ℕ} {log page : Memory} → All page q.registers → LogRow q key (missed log) 28 a b c page
-  r29 : {a b c : ℕ} {log page : Memory} → All page q.registers → LogRow q key (halted log) 29 a b c page
-  r30 : {a c : ℕ} {log page : Memory} → All page q.registers → LogRow q key (halted log) 30 a 0x4200_0000 c page
-  r31 : {a c : ℕ} {log page : Memory} → All page q.registers → LogRow q key (headless log) 31 a 0x4200_0000 c page
-  r32 : {a b c : ℕ} {log page : Memory} → All page q.registers → LogRow q key (emptied log) 32 a b c page
-  r33 : {a b : ℕ} {log page : Memory} → All page q.registers → LogRow q key (emptied log) 33 a b 0x4200_1000 page
-  r34 : {a : ℕ} {log page : Memory} → All page q.registers → LogRow q key (emptied log) 34 a q.pc 0x4200_1000 page
-  r35 : {a b : ℕ} {log page : Memory} → All page q.registers → LogRow q key (boxing log 0) 35 a b 0x4200_1000 page
-  r36 : {a : ℕ} {log page : Memory} → All page q.registers → LogRow q key (boxing log 0) 36 a (q.registers 30) 0x4200_1000 page
-  r37-66 : (j : ℕ) {log page : Memory} → j < 30 → Two page q.registers → LogRow q key (boxing log j) (37 + j) (q.registers 29) (q.registers 30) 0x4200_1000 page
-  r67 : {log page : Memory} → Two page q.registers → LogRow q key (boxing log 30) 67 (q.registers 29) (q.registers 30) 0x4200_1000 page
-  r68 : {log page : Memory} → Two page q.registers → LogRow q key (boxing log 30) 68 (q.registers 29) (q.registers 31) 0x4200_1000 page
-  r69 : {b : ℕ} {log page : Memory} → Two page q.registers → LogRow q key (boxing log 31) 69 (q.registers 29) b 0x4200_1000 page
+  r28 : {a b c : ℕ} {log page : Memory} → SavedAll page q.registers → LogRow q key (missed log) 28 a b c page
+  r29 : {a b c : ℕ} {log page : Memory} → SavedAll page q.registers → LogRow q key (halted log) 29 a b c page
+  r30 : {a c : ℕ} {log page : Memory} → SavedAll page q.registers → LogRow q key (halted log) 30 a 0x4200_0000 c page
+  r31 : {a c : ℕ} {log page : Memory} → SavedAll page q.registers → LogRow q key (headless log) 31 a 0x4200_0000 c page
+  r32 : {a b c : ℕ} {log page : Memory} → SavedAll page q.registers → LogRow q key (emptied log) 32 a b c page
+  r33 : {a b : ℕ} {log page : Memory} → SavedAll page q.registers → LogRow q key (emptied log) 33 a b 0x4200_1000 page
+  r34 : {a : ℕ} {log page : Memory} → SavedAll page q.registers → LogRow q key (emptied log) 34 a q.pc 0x4200_1000 page
+  r35 : {a b : ℕ} {log page : Memory} → SavedAll page q.registers → LogRow q key (boxing log 0) 35 a b 0x4200_1000 page
+  r36 : {a : ℕ} {log page : Memory} → SavedAll page q.registers → LogRow q key (boxing log 0) 36 a (q.registers 30) 0x4200_1000 page
+  r37-66 : (j : ℕ) {log page : Memory} → j < 30 → SavedTwo page q.registers → LogRow q key (boxing log j) (37 + j) (q.registers 29) (q.registers 30) 0x4200_1000 page
+  r67 : {log page : Memory} → SavedTwo page q.registers → LogRow q key (boxing log 30) 67 (q.registers 29) (q.registers 30) 0x4200_1000 page
+  r68 : {log page : Memory} → SavedTwo page q.registers → LogRow q key (boxing log 30) 68 (q.registers 29) (q.registers 31) 0x4200_1000 page
+  r69 : {b : ℕ} {log page : Memory} → SavedTwo page q.registers → LogRow q key (boxing log 31) 69 (q.registers 29) b 0x4200_1000 page
   r70 : {c : ℕ} {log page : Memory} → Saved31 page q.registers → LogRow q key (boxing log 31) 70 (q.registers 29) (q.registers 30) c page
   r71 : {c : ℕ} {page : Memory} → Saved31 page q.registers → LogRow q key (settled true) 71 (q.registers 29) (q.registers 30) c page
 
@@ -181,12 +182,15 @@ module _ (w : World) (x : Answer) (q : State) (t : Tally) (fits : (n : ℕ) → 
 
   -- ---- the branches
 
+  -- a branch that is taken at 0 finds no key
   no_key : {b : Bool} → (key == 0) ≡ b → b ≡ true → key ≡ 0
   no_key e f = eqb→eq key 0 (rw (e ∙ f) tt)
 
+  -- and one that isn't finds one
   has_key : (key == 0) ≡ false → 0 < key
   has_key e = grind (arith, nat_tests)
 
+  -- word 3 leads on: without key to word 25
   branch_3 : (b : Bool) → (key == 0) ≡ b → (r : Run) (page : Memory) → Saved31 page q.registers → Appends before r.shared
       → Leads fresh (at q t r (branched b 25 4) (q.registers 29) (q.registers 30) key page)
   branch_3 true e r page s f = to fresh (settled false) r 25 _ _ key page refl (r25 s) (keyless (no_key e refl) f) refl refl
@@ -198,29 +202,35 @@ module _ (w : World) (x : Answer) (q : State) (t : Tally) (fits : (n : ℕ) → 
       let same : log_head log ≡ log_tail log = eqb→eq _ _ (rw e tt) in
       omega (arith, same, o.some)
 
+  -- a log whose head isn't its tail has a pair
   some_pair : (log : Memory) → Judged key before log → (log_head log == log_tail log) ≡ false → log_head log < log_tail log
   some_pair log j e =
       let below : log_head log ≤ log_tail log = omega (arith, order, j.grown.head, j.grown.tail) in
       grind (arith, nat_tests, below, e)
 
-  branch_10 : (log : Memory) (b : Bool) → (log_head log == log_tail log) ≡ b → (r : Run) (page : Memory) → All page q.registers → loaded page (2 ^ 64 - 64) 8 ≡ key
+  -- word 10 leads on: a log without pair to word 28
+  branch_10 : (log : Memory) (b : Bool) → (log_head log == log_tail log) ≡ b → (r : Run) (page : Memory) → SavedAll page q.registers → loaded page (2 ^ 64 - 64) 8 ≡ key
       → Judged key before log → Appends log r.shared → Leads (judging log) (at q t r (branched b 28 11) (log_head log) 0x4200_0000 (log_tail log) page)
   branch_10 log true e r page s v j f = to (judging log) (missed log) r 28 _ _ _ page refl (r28 s) (record { judged = j; other = no_pair log e }) refl refl
   branch_10 log false e r page s v j f = to (judging log) (found log) r 11 _ _ _ page refl (r11 s v) (j, f, some_pair log j e) refl refl
 
+  -- what a test for inequality shows to differ isn't equal
   unequal : {A : Type 0} (m n : ℕ) → not (m == n) ≡ true → m ≡ n → A
   unequal {A} m n e f = absurd (grind (arith, nat_tests, e, f))
 
+  -- and what it doesn't is
   equal : (m n : ℕ) → not (m == n) ≡ false → m ≡ n
   equal m n e = grind (arith, nat_tests, e)
 
-  branch_16 : (log : Memory) (b : Bool) → not ((logged log (log_head log)).0 == key) ≡ b → (r : Run) (c : ℕ) (page : Memory) → All page q.registers → Place log c
+  -- word 16 leads on: another key to word 28
+  branch_16 : (log : Memory) (b : Bool) → not ((logged log (log_head log)).0 == key) ≡ b → (r : Run) (c : ℕ) (page : Memory) → SavedAll page q.registers → Place log c
       → Judged key before log → Appends log r.shared → log_head log < log_tail log → Leads (found log) (at q t r (branched b 28 17) ((logged log (log_head log)).0) key c page)
   branch_16 log true e r c page s l j f h =
       to (found log) (missed log) r 28 _ _ c page refl (r28 s) (record { judged = j; other = λ o. unequal (logged log (log_head log)).0 key e (ap (λ p. p.0) o.pair) }) refl refl
   branch_16 log false e r c page s l j f h = to (found log) (matching log) r 17 _ _ c page refl (r17 s l) (j, f, h, equal _ key e) refl refl
 
-  branch_18 : (log : Memory) (b : Bool) → not ((logged log (log_head log)).1 == count) ≡ b → (r : Run) (b' c : ℕ) (page : Memory) → All page q.registers
+  -- word 18 leads on: another count to word 28
+  branch_18 : (log : Memory) (b : Bool) → not ((logged log (log_head log)).1 == count) ≡ b → (r : Run) (b' c : ℕ) (page : Memory) → SavedAll page q.registers
       → Judged key before log → Appends log r.shared → log_head log < log_tail log → (logged log (log_head log)).0 ≡ key
       → Leads (matching log) (at q t r (branched b 28 19) ((logged log (log_head log)).1) b' c page)
   branch_18 log true e r b' c page s j f h k =
@@ -240,7 +250,7 @@ module _ (w : World) (x : Answer) (q : State) (t : Tally) (fits : (n : ℕ) → 
         subst (λ v. BoxedTo (stored r.shared (0x4200_1000 + 8 * suc j) 8 v) q.pc q.registers (suc j)) (sym is) (register_boxed r.shared q.pc q.registers j (fits (suc j)) b),
       )
 
-  next_register : (log : Memory) (r : Run) (j : ℕ) (page : Memory) → j < 30 → Two page q.registers → Known (boxing log j) r → (j + 1 < 30) ⊎ (30 ≤ j + 1)
+  next_register : (log : Memory) (r : Run) (j : ℕ) (page : Memory) → j < 30 → SavedTwo page q.registers → Known (boxing log j) r → (j + 1 < 30) ⊎ (30 ≤ j + 1)
       → Leads (boxing log j) (after_word w x q t r (37 + j) (q.registers 29) (q.registers 30) 0x4200_1000 page)
   next_register log r j page h s f (inl l) =
       let r' : Run = boxed_in w x q t r (q.registers 29) (q.registers 30) j in
@@ -275,6 +285,7 @@ module _ (w : World) (x : Answer) (q : State) (t : Tally) (fits : (n : ℕ) → 
   next_head : (log : Memory) → Judged key before log → IsOldest log key count → wrap (log_head log + 1) ≡ log_head log + 1
   next_head log j o = omega (arith, j.grown.below, o.some)
 
+  -- each word leads on
   pub log_word_goes : (r : Run) (p : Phase) (k a b c : ℕ) (page : Memory) → LogRow q key p k a b c page → Known p r → Leads p (after_word w x q t r k a b c page)
   log_word_goes r _ _ a b c page r1 f = to fresh fresh r 2 _ _ _ _ (word_1 w x q t r _ _ _ page) (r2 (save31 page q.registers fits)) f refl refl
   log_word_goes r _ _ a b c page (r2 s) f = to fresh fresh r 3 _ _ _ page (word_2 w x q t r _ _ _ page) (r3 s) f refl refl

@@ -14,6 +14,7 @@ use Rattle.own_laws.proofs.Reached.{none_some}
 use Rattle.own_laws.proofs.Side.{side_of}
 use Rattle.own_laws.proofs.StubRows.{left}
 
+-- the program's view isn't the stub's
 pub program_stub : {A : Type 0} → Program ≡ Stub → A
 program_stub {A} e = absurd (no e)
   where
@@ -28,6 +29,7 @@ with_reg-other rs v i h = by_test (i == 10) refl
     by_test true e = absurd (h (eqb→eq i 10 (rw e tt)))
     by_test false e = refl
 
+-- a performed call leaves all registers but x10
 performed-registers : (files : Files) (taken : ℕ) (c : CallPlan) (q : State) (i : ℕ) → i ≢ 10 → (performed files taken c q).registers i ≡ q.registers i
 performed-registers files taken (Set f answer) q i h = with_reg-other q.registers _ i h
 performed-registers files taken (Look name) q i h = with_reg-other q.registers _ i h
@@ -42,6 +44,7 @@ not_leaving {A} k e h =
     let last : k ≡ 27 = omega (arith, e) in
     absurd (omega (arith, subst (λ n. left n ≤ 64) last h))
 
+-- by stages: only behind the call can the own hart be about to leave
 leaves-one_call : (w : World) (r : Run) → OwnSide w (side_of r) → IsLeaving r → IsOneCall w r
 leaves-one_call w r (in_program t site gate s page h f is) l = program_stub (sym (ap (λ p. p.view) is) ∙ l.view)
 leaves-one_call w r (in_stub t q k a b c page g row most is) l = not_leaving k (sym (ap (λ p. p.own.pc) is) ∙ l.word) most
@@ -58,5 +61,6 @@ leaves-one_call w r (called t q s taken page h f z n is) l =
       registers = λ i h. ap (λ (s : State). s.registers i) (own ∙ ap (λ (s : State). record s { pc = leave_word }) done) ∙ performed-registers w.files taken (plan w r.at_gate) r.at_gate i h;
     }
 
+-- so it is in each run
 pub leaves_with_one_call : StubIsOneCall
 leaves_with_one_call w a ms l = leaves-one_call w (run w ms) (own_side w a ms) l

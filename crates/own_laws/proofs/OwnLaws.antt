@@ -20,6 +20,7 @@ own_side w a ms =
 
 -- ---- preservation
 
+-- the rewritten program does what the plain one does
 pub preserves : Preserved
 preserves w a ms =
     let r : Run = run w ms in
@@ -42,6 +43,7 @@ preserves w a ms =
 
 -- ---- the run from the restart
 
+-- while puts are whole, the own side follows it
 pub own_follows : OwnFollows
 own_follows w a ms restarted whole =
     by_origin r.since.origin refl

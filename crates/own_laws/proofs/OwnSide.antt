@@ -33,6 +33,7 @@ use Rattle.own_laws.proofs.StubRows.{Row, w1, left, WordGoes, to_row, to_call, w
 
 -- ---- stages
 
+-- the plan of the call that a state asks for
 abbrev pub plan : World → State → CallPlan
 plan w q = plan_of w.image.layout q
 
@@ -82,12 +83,14 @@ pub record Follows (w : World) (p : Side) : Type 0 where
   pub end : (taken : Taken) → SameEnd p.end (end_of w.image w.files taken state)
   pub goes_on : p.end ≡ None → state.exited ≡ None
 
+-- the stub's view isn't the program's
 stub_program : {A : Type 0} → Stub ≡ Program → A
 stub_program {A} e = absurd (no e)
   where
     no : Stub ≡ Program → ⊥
     no e = cc
 
+-- an end isn't none
 some_none : {X A : Type 0} {x : X} → Some x ≡ None → A
 some_none e = none_some (sym e)
 
@@ -98,6 +101,7 @@ stays-follows w p p' s is h f e own place =
     subst (λ p. Follows w p) (sym is)
     (record { state = s; reached = h; own = own; place = place; end = λ taken. subst (λ end. SameEnd end (end_of w.image w.files taken s)) (sym e) tt; goes_on = λ e. f })
 
+-- each stage has such a state
 pub follows : (w : World) (p : Side) → OwnSide w p → Follows w p
 follows w p (in_program t site gate s page h f is) = stays-follows w p _ s is h f refl refl (λ e. refl)
 follows w p (in_stub t q k a b c page g row most is) = stays-follows w p _ q is g.reached g.going refl refl (λ e. stub_program e)
@@ -128,6 +132,7 @@ module _ (w : World) where
         in_program (completed_tally t.whole t.gathered t) site gate s' page
         (reached-more w t t.whole t.gathered s s' h f (record { plain = λ taken a. (same taken a, k taken); since = λ o e whole. (whole, k all_taken) })) f' refl
 
+    -- each effect of an instruction leads to a stage
     after_effect-goes : (e : Effect) → NoGate e → ((taken : Taken) → next w.image w.files taken s ≡ after_effect w.image w.files taken s e) → OwnSide w (side_of (program_after here (gated e)))
     after_effect-goes (Next rs pc) n k = goes _ f k (λ taken a. a)
     after_effect-goes (Stored a width v) n k = goes _ f k (λ taken a. a)
@@ -139,6 +144,7 @@ module _ (w : World) where
         (ap (λ rs. stub_side s (record t { asked = false }) 1 rs page) (sym (three-own s.registers)))
     after_effect-goes (Gated i) n k = absurd n.by
 
+    -- so does each word of the program
     word-goes : (o : Option Instr) → fetched (text_of w.image) w.image.layout.text_start s.pc ≡ o → OwnSide w (side_of (program_at w here (option_map patched_instr o)))
     word-goes None e =
         over s (Traps trap.FetchOut s.pc) h (record { ended = refl; own = refl; place = λ e. refl; same = λ taken. end_of-step w taken s _ f (ap (at_word w.image w.files taken s) e) })
@@ -147,6 +153,7 @@ module _ (w : World) where
         (after_effect-goes (effect Plain (data_rights w.image.layout) s.memory s.registers s.pc i)
         (effect-no_gate (data_rights w.image.layout) s.memory s.registers s.pc i) (λ taken. ap (at_word w.image w.files taken s) e))
 
+    -- so does each own move in the program
     program-goes : OwnSide w (side_of (program_step w here))
     program-goes =
         subst (λ o. OwnSide w (side_of (program_at w here o))) (sym (fetched-map patched_instr (text_of w.image) w.image.layout.text_start s.pc))
@@ -181,6 +188,7 @@ module _ (w : World) where
         let z = Fixes-last taken.out q.out.puts (length (bytes_at q.memory a n), k) h.0 in
         ((z.0, h.1), ap (λ m. unwrap_or (slice_get taken.out (length q.out.puts)) m) (sym (length-bytes_at q.memory a n)) ∙ z.1)
 
+    -- the same of standard error
     fixed_err : (taken : Taken) (a n k : ℕ) → Agrees taken (performed w.files k (Write false a n) q) → Agrees taken q × (taken_by taken (Write false a n) q ≡ k)
     fixed_err taken a n k h =
         let z = Fixes-last taken.err q.err.puts (length (bytes_at q.memory a n), k) h.1 in
@@ -197,6 +205,7 @@ module _ (w : World) where
         not_true true e = sym e
         not_true false e = refl
 
+    -- a put leads behind the call
     put-goes : (to_out : Bool) (a n k : ℕ) (notes : List Note) → plan w q ≡ Write to_out a n → OwnSide w (side_of (write_done w k to_out a n the_call))
     put-goes true a n k notes p =
         done (t.whole && ((k == n) || (t.restarts == 0))) k (Write true a n) _ p refl g.going refl (λ taken h. fixed_out taken a n k h) (λ o e h. taken_whole k n o e h)
@@ -207,23 +216,27 @@ module _ (w : World) where
     fails : (e : RunEnd) → ((taken : Taken) → SameEnd (Some e) (end_of w.image w.files taken q)) → OwnSide w (record (stub_side q t 26 q.registers page) { end = Some e })
     fails e same = over q e g.reached (record { ended = refl; own = refl; place = λ e. stub_program e; same = same })
 
+    -- a look ends the run or leads behind the call
     look-goes : (x : Answer) (name : List ℕ) → plan w q ≡ Look name → OwnSide w (side_of (look_done w x the_call name))
     look-goes Failed name p = fails StoreFailed (λ taken. tt)
     look-goes Usual name p = done t.whole 0 (Look name) _ p refl g.going refl (λ taken h. (h, refl)) (λ o e h. (h, refl))
     look-goes (Took k) name p = done t.whole 0 (Look name) _ p refl g.going refl (λ taken h. (h, refl)) (λ o e h. (h, refl))
     look-goes Lost name p = done t.whole 0 (Look name) _ p refl g.going refl (λ taken h. (h, refl)) (λ o e h. (h, refl))
 
+    -- a read waits for a block or leads behind the call
     read-goes : (b : Bool) (d : ℕ) (spot : ReadSpot) (a : ℕ) (had : Gathered) → plan w q ≡ Read d spot a → OwnSide w (side_of (read_on b w d spot a had the_call))
     read-goes true d spot a had p =
         waits (record t { gathered = had.had }) q page (record { reached = reached-with w t had.had t.asked q g.reached; going = g.going; calls = g.calls }) refl
     read-goes false d spot a had p = done t.whole 0 (Read d spot a) _ p refl g.going refl (λ taken h. (h, refl)) (λ o e h. (h, refl))
 
+    -- a write ends the run or leads behind the call
     write-goes : (x : Answer) (to_out : Bool) (a n : ℕ) → plan w q ≡ Write to_out a n → OwnSide w (side_of (write_step w x the_call to_out a n))
     write-goes Failed to_out a n p = fails SinkFailed (λ taken. tt)
     write-goes Usual to_out a n p = put-goes to_out a n (taken_in Usual n) [] p
     write-goes (Took k) to_out a n p = put-goes to_out a n (taken_in (Took k) n) [] p
     write-goes Lost to_out a n p = put-goes to_out a n (taken_in Lost n) [] p
 
+    -- an exit ends the run as the plain program does
     exit-goes : (code : ℕ) → plan w q ≡ Exit code → OwnSide w (side_of (call_step w Usual the_call (Exit code)))
     exit-goes code p =
         over (performed w.files 0 (Exit code) q) (Exits code)
@@ -233,6 +246,7 @@ module _ (w : World) where
         exits : (taken : Taken) → next w.image w.files taken q ≡ Went (performed w.files 0 (Exit code) q)
         exits taken = g.calls taken ∙ ap (λ c. Went (performed w.files (taken_by taken c q) c q)) p
 
+    -- each call leads to a stage
     call-goes : (x : Answer) (c : CallPlan) → plan w q ≡ c → OwnSide w (side_of (call_step w x the_call c))
     call-goes x (Set files answer) p = done t.whole 0 (Set files answer) _ p refl g.going refl (λ taken h. (h, refl)) (λ o e h. (h, refl))
     call-goes x (Look name) p = look-goes x name p
@@ -261,12 +275,14 @@ module _ (w : World) where
       restarted : (n : ℕ) → true ≡ not (n + 1 == 0)
       restarted n = grind (arith, nat_tests)
 
+  -- each word of the stub leads to a stage
   stub-goes : (t : Tally) (q : State) (k : ℕ) (r r' : Run) → AtCall w t q → left k ≤ 64 → WordGoes q t k r.cache r' → OwnSide w (side_of r')
   stub-goes t q k r r' g most (to_row b l x29 x30 x31 page row is less same) =
       in_stub (tally_after b q t) q l x29 x30 x31 page (after_restart b t q g) row (omega (arith, less, most)) is
   stub-goes t q k r r' g most (to_call page is less same) = at_call t q page g is
 
   module _ (accepted : Accepted w) where
+    -- each own move leads from a stage to a stage
     own-goes : (x : Answer) (r : Run) → r.end ≡ None → OwnSide w (side_of r) → OwnSide w (side_of (own_step w x r))
     own-goes x r z (in_program t site gate s page h f is) = placed (λ r. OwnSide w (side_of (own_step w x r))) r _ is (program-goes r t site gate s page h f)
     own-goes x r z (in_stub t q k a b c page g row most is) =
@@ -290,9 +306,11 @@ module _ (w : World) where
     abbrev more : Tally → Tally
     more t = record t { gathered = t.gathered + 1 }
 
+    -- one block more is had
     had_more : (t : Tally) (q : State) → AtCall w t q → AtCall w (more t) q
     had_more t q g = record { reached = reached-with w t (t.gathered + 1) t.asked q g.reached; going = g.going; calls = g.calls }
 
+    -- each stage is one where a stall ends
     wakes : (p : Side) → p.end ≡ None → OwnSide w p → OwnSide w (awake p)
     wakes p z (in_program t site gate s page h f is) = in_program (more t) site gate s page (reached-with w t (t.gathered + 1) t.asked s h) f (ap awake is)
     wakes p z (in_stub t q k a b c page g row most is) = in_stub (more t) q k a b c page (had_more t q g) row most (ap awake is)
@@ -301,26 +319,31 @@ module _ (w : World) where
     wakes p z (called t q s k page h f y n is) = called (more t) q s k page (reached-with w t (t.gathered + 1) t.asked s h) f y n (ap awake is)
     wakes p z (over s e h o) = none_some (sym z ∙ o.ended)
 
+    -- the landing of a block leads to a stage
     landed-goes : (o : Option BlockSpot) (r : Run) (notes : List Note) → r.end ≡ None → OwnSide w (side_of r) → OwnSide w (side_of (landed_with o r notes))
     landed-goes (Some spot) r notes z h = wakes (side_of r) z h
     landed-goes None r notes z h = h
 
+    -- so does a failed fetch
     failed-goes : (o : Option BlockSpot) (r : Run) (spot : BlockSpot) → OwnSide w (side_of r) → OwnSide w (side_of (fetch_failed o r spot))
     failed-goes (Some demanded) r spot h = stops (side_of r) (follows w (side_of r) h)
     failed-goes None r spot h = h
 
+    -- so does each end of a fetch
     ends-goes : (x : Answer) (r : Run) (spot : BlockSpot) → r.end ≡ None → OwnSide w (side_of r) → OwnSide w (side_of (fetch_ends w x r spot))
     ends-goes Failed r spot z h = failed-goes r.cache.demanded r spot h
     ends-goes Lost r spot z h = landed-goes r.cache.demanded r (note.Lost spot ∷ []) z h
     ends-goes Usual r spot z h = landed-goes r.cache.demanded r (note.Fetch spot ∷ []) z h
     ends-goes (Took k) r spot z h = landed-goes r.cache.demanded r (note.Fetch spot ∷ []) z h
 
+    -- so does each fetch
     fetch-goes : (o : Option BlockSpot) (x : Answer) (r : Run) → r.end ≡ None → OwnSide w (side_of r) → OwnSide w (side_of (fetch_of o w x r))
     fetch-goes None x r z h = h
     fetch-goes (Some spot) x r z h = ends-goes x r spot z h
 
     -- ---- each move
 
+    -- so does each move
     moved-goes : (m : Move) (x : Answer) (r : Run) (e : Option RunEnd) → r.end ≡ e → OwnSide w (side_of r) → OwnSide w (side_of (step_unless e w r (m, x)))
     moved-goes m x r (Some e) z h = h
     moved-goes O x r None z h = own-goes x (begun r) z h
@@ -328,9 +351,11 @@ module _ (w : World) where
     moved-goes S x r None z h = subst (λ e. OwnSide w (side_of (step_unless e w r (S, x)))) z (subst (λ p. OwnSide w p) (sym (ap (λ (k : Kept). k.side) (shadow_move-keeps w r S x tt))) h)
     moved-goes T x r None z h = subst (λ e. OwnSide w (side_of (step_unless e w r (T, x)))) z (subst (λ p. OwnSide w p) (sym (ap (λ (k : Kept). k.side) (shadow_move-keeps w r T x tt))) h)
 
+    -- so does each step
     pub step-goes : (r : Run) (m : Move) (x : Answer) → OwnSide w (side_of r) → OwnSide w (side_of (step w r (m, x)))
     step-goes r m x h = moved-goes m x r r.end refl h
 
+    -- so does each list of moves
     pub run-goes : (ms : Moves) (r : Run) → OwnSide w (side_of r) → OwnSide w (side_of (run_from w r ms))
     unfolding run_from
     run-goes [] r h = h

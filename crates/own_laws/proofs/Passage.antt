@@ -62,10 +62,12 @@ fetched-below code start pc i e = by_test (nat_le start pc && (pc % 4 == 0)) e
     by_test true e = omega (arith, slice_get_within code ((pc - start) / 4) i e)
     by_test false e = none_some e
 
+-- a mapped list is as long
 length-map : {A B : Type 0} (f : A → B) (xs : List A) → length (map f xs) ≡ length xs
 length-map f [] = refl
 length-map f (x ∷ xs) = ap suc (length-map f xs)
 
+-- the image's limit is below 2^64
 limit-small : (v : Version) → image_limit v < 2 ^ 64
 limit-small One = omega arith
 limit-small Two = omega arith
@@ -83,6 +85,7 @@ module _ (w : World) (accepted : Accepted w) where
     abbrev here : Run
     here = with_side base (program_side s site gate page t)
 
+    -- an instruction that leads to the stub is a call
     after_effect-enters : (e : Effect) → s.pc < 2 ^ 64 → (program_after here (gated e)).view ≡ Stub → Entered w here (program_after here (gated e))
     after_effect-enters (Next rs pc) p v = program_stub v
     after_effect-enters (Stored a width n) p v = program_stub v
@@ -90,6 +93,7 @@ module _ (w : World) (accepted : Accepted w) where
     after_effect-enters Called p v = record { tally = record t { asked = false }; page = page; side = refl; shared = refl; fits = reached-fits w accepted t s h; place = p; asked = refl }
     after_effect-enters (Gated i) p v = record { tally = record t { asked = false }; page = page; side = refl; shared = refl; fits = reached-fits w accepted t s h; place = p; asked = refl }
 
+    -- so is a word of the program
     word-enters : (o : Option Instr) → fetched (text_of w.image) w.image.layout.text_start s.pc ≡ o → (program_at w here (option_map patched_instr o)).view ≡ Stub
         → Entered w here (program_at w here (option_map patched_instr o))
     word-enters None e v = program_stub v
@@ -97,11 +101,13 @@ module _ (w : World) (accepted : Accepted w) where
         subst (λ e. (program_after here e).view ≡ Stub → Entered w here (program_after here e)) (sym (effect-patched (data_rights w.image.layout) s.memory s.registers s.pc i))
         (after_effect-enters (effect Plain (data_rights w.image.layout) s.memory s.registers s.pc i) (place-small w accepted s.pc i e)) v
 
+    -- so is an own move in the program
     program-enters : (program_step w here).view ≡ Stub → Entered w here (program_step w here)
     program-enters v =
         subst (λ o. (program_at w here o).view ≡ Stub → Entered w here (program_at w here o)) (sym (fetched-map patched_instr (text_of w.image) w.image.layout.text_start s.pc))
         (word-enters (fetched (text_of w.image) w.image.layout.text_start s.pc) refl) v
 
+  -- an own move that leads from the program to the stub has met a gate
   own-enters : (x : Answer) (r : Run) → OwnSide w (side_of r) → r.view ≡ Program → r.end ≡ None → (own_step w x r).view ≡ Stub → Entered w r (own_step w x r)
   own-enters x r (in_program t site gate s page h f is) p z v =
       placed w (λ r. (own_step w x r).view ≡ Stub → Entered w r (own_step w x r)) r _ is (program-enters r t site gate s page h) v
@@ -111,6 +117,7 @@ module _ (w : World) (accepted : Accepted w) where
   own-enters x r (called t q s k page h f y n is) p z v = program_stub (sym p ∙ ap (λ p. p.view) is)
   own-enters x r (over s e h o) p z v = none_some (sym z ∙ o.ended)
 
+  -- so has a step
   step-enters : (x : Answer) (r : Run) (e : Option RunEnd) → r.end ≡ e → OwnSide w (side_of r) → r.view ≡ Program
       → (step_unless e w r (O, x)).view ≡ Stub → Entered w r (step_unless e w r (O, x))
   step-enters x r (Some e) z h p v = program_stub (sym p ∙ v)
@@ -120,6 +127,7 @@ module _ (w : World) (accepted : Accepted w) where
 
 -- ---- what a move of the shadow leaves of what is known
 
+-- what becomes of the log is the same where pairs are appended
 Outcome-grows : (q : State) (key count : ℕ) (before : Memory) (asked : Bool) (m m' : Memory) → Outcome q key count before asked m → Appends m m' → Outcome q key count before asked m'
 Outcome-grows q key count before _ m m' (keyless k f) g = keyless k (Appends-again before m m' f g)
 Outcome-grows q key count before _ m m' (takes log k j o f) g = takes log k j o (Appends-again (without_oldest log) m m' f g)
@@ -146,6 +154,7 @@ Fact-grows q key count before (boxing log j) m m' s s' (f, e, z, b) g h = subst 
 abbrev Stays : Run → Run → Type 0
 Stays r r' = (r'.shared ≡ r.shared) × (r'.shadow.state ≡ Stopped)
 
+-- each of its moves
 stopped-stays : (w : World) (r : Run) (m : Move) (x : Answer) → IsShadowMove m → r.shadow.state ≡ Stopped → Stays r (step w r (m, x))
 stopped-stays w r m x h e = by_end r.end m h
   where
@@ -165,6 +174,7 @@ stopped-stays w r m x h e = by_end r.end m h
 
 -- ---- the passage
 
+-- in a passage the own hart is in the stub
 passing-view : (w : World) (ms : Moves) (r : Run) → Passing w r ms → r.view ≡ Stub
 passing-view w [] r h = h
 passing-view w (m ∷ ms) r h = h.0
@@ -211,26 +221,31 @@ module _ (w : World) (q : State) (fits : (i : ℕ) → q.registers i < 2 ^ 64) (
         → side_of next ≡ called_side q (performed w.files k c q) (record t { done = t.done + 1; own = t.own + 1; whole = whole; gathered = 0 }) page → Passes next
     completed whole k c next m is = behind _ asked (performed w.files k c q) page (subst (λ m. Outcome q key count before asked m) (sym m) o) (one_more whole) is
 
+    -- a look ends the run or leads behind the call
     look-passes : (x : Answer) (name : List ℕ) → Passes (look_done w x the_call name)
     look-passes Failed name = ended refl
     look-passes Usual name = completed t.whole 0 (Look name) _ refl refl
     look-passes (Took k) name = completed t.whole 0 (Look name) _ refl refl
     look-passes Lost name = completed t.whole 0 (Look name) _ refl refl
 
+    -- a read waits for a block or leads behind the call
     read-passes : (b : Bool) (d : ℕ) (spot : ReadSpot) (a : ℕ) (had : Gathered) → Passes (read_on b w d spot a had the_call)
     read-passes true d spot a had = on_call (record t { gathered = had.had }) asked true page o (record { done = n.done; restarts = n.restarts; asked = n.asked }) refl
     read-passes false d spot a had = completed t.whole 0 (Read d spot a) _ refl refl
 
+    -- a put leads behind the call
     put-passes : (to_out : Bool) (a n k : ℕ) → Passes (write_done w k to_out a n the_call)
     put-passes true a n k = completed _ k (Write true a n) _ refl refl
     put-passes false a n k = completed _ k (Write false a n) _ refl refl
 
+    -- a write ends the run or leads behind the call
     write-passes : (x : Answer) (to_out : Bool) (a n : ℕ) → Passes (write_step w x the_call to_out a n)
     write-passes Failed to_out a n = ended refl
     write-passes Usual to_out a n = put-passes to_out a n (taken_in Usual n)
     write-passes (Took k) to_out a n = put-passes to_out a n (taken_in (Took k) n)
     write-passes Lost to_out a n = put-passes to_out a n (taken_in Lost n)
 
+    -- each call waits, ends the run or leads behind the call
     call-passes : (x : Answer) (c : CallPlan) → Passes (call_step w x the_call c)
     call-passes x (Set files answer) = completed t.whole 0 (Set files answer) _ refl refl
     call-passes x (Look name) = look-passes x name
@@ -240,6 +255,7 @@ module _ (w : World) (q : State) (fits : (i : ℕ) → q.registers i < 2 ^ 64) (
 
   -- ---- an own move
 
+  -- each word of the stub leads on
   onward-passes : (t : Tally) (p : Phase) (next : Run) → Counts done restarts (is_asked p) t → Onward q key count before t p next → Passes next
   onward-passes t p next n (to_row p' l a b c page row f same u is) = at_word t p' l a b c page row f u (subst (λ asked. Counts done restarts asked t) (sym same) n) is
   onward-passes t p next n (to_restarted c page s o first is) =
@@ -247,6 +263,7 @@ module _ (w : World) (q : State) (fits : (i : ℕ) → q.registers i < 2 ^ 64) (
       at_word (restarted_tally q t) (settled true) 71 _ _ c page (r71 s) o refl (record { done = n.done; restarts = ap (λ m. m + 1) same; asked = refl }) is
   onward-passes t p next n (to_call asked page o same is) = on_call t asked false page o (subst (λ asked. Counts done restarts asked t) (sym same) n) is
 
+  -- each own move that stays in the stub leads on
   own-passes : (x : Answer) (r : Run) → r.end ≡ None → Passes r → (own_step w x r).view ≡ Stub → Passes (own_step w x r)
   own-passes x r z (at_word t p k a b c page row f u n is) v =
       placed w (λ (r : Run). Fact q key count before p r.shared r.shadow.state → Passes (own_step w x r)) r _ is
@@ -266,9 +283,11 @@ module _ (w : World) (q : State) (fits : (i : ℕ) → q.registers i < 2 ^ 64) (
   abbrev awake : Side → Side
   awake p = record p { stalled = false; tally = more p.tally }
 
+  -- one block more changes no other count
   more-counts : (d : ℕ) (asked : Bool) (t : Tally) → Counts d restarts asked t → Counts d restarts asked (more t)
   more-counts d asked t n = record { done = n.done; restarts = n.restarts; asked = n.asked }
 
+  -- the end of a stall leaves the passage
   wakes-passes : (r : Run) (notes : List Note) (spot : BlockSpot) → Passes r → Passes (landed_with (Some spot) r notes)
   wakes-passes r notes spot (at_word t p k a b c page row f u n is) = at_word (more t) p k a b c page row f u (more-counts done (is_asked p) t n) (ap awake is)
   wakes-passes r notes spot (on_call t asked stalled page o n is) = on_call (more t) asked false page o (more-counts done asked t n) (ap awake is)
@@ -283,26 +302,31 @@ module _ (w : World) (q : State) (fits : (i : ℕ) → q.registers i < 2 ^ 64) (
   same-passes r r' h m s (behind t asked s' page o n is) = behind t asked s' page (subst (λ x. Outcome q key count before asked x) (sym m) o) n (h ∙ is)
   same-passes r r' h m s (ended e) = ended (ap (λ p. is_some p.end) h ∙ e)
 
+  -- so does the landing of a block
   landed-passes : (o : Option BlockSpot) (r : Run) (notes : List Note) → Passes r → Passes (landed_with o r notes)
   landed-passes (Some spot) r notes h = wakes-passes r notes spot h
   landed-passes None r notes h = same-passes r _ refl refl refl h
 
+  -- a failed fetch may end the run
   failed-passes : (o : Option BlockSpot) (r : Run) (spot : BlockSpot) → Passes r → Passes (fetch_failed o r spot)
   failed-passes (Some demanded) r spot h = ended refl
   failed-passes None r spot h = same-passes r _ refl refl refl h
 
+  -- each end of a fetch leaves the passage, or ends the run
   ends-passes : (x : Answer) (r : Run) (spot : BlockSpot) → Passes r → Passes (fetch_ends w x r spot)
   ends-passes Failed r spot h = failed-passes r.cache.demanded r spot h
   ends-passes Lost r spot h = landed-passes r.cache.demanded r (note.Lost spot ∷ []) h
   ends-passes Usual r spot h = same-passes (landed_with r.cache.demanded r (note.Fetch spot ∷ [])) _ refl refl refl (landed-passes r.cache.demanded r (note.Fetch spot ∷ []) h)
   ends-passes (Took k) r spot h = same-passes (landed_with r.cache.demanded r (note.Fetch spot ∷ [])) _ refl refl refl (landed-passes r.cache.demanded r (note.Fetch spot ∷ []) h)
 
+  -- so does each fetch
   fetch-passes : (o : Option BlockSpot) (x : Answer) (r : Run) → Passes r → Passes (fetch_of o w x r)
   fetch-passes None x r h = h
   fetch-passes (Some spot) x r h = ends-passes x r spot h
 
   -- ---- a move of the shadow
 
+  -- a move of the shadow that appends leaves the passage
   shadow-passes : (m : Move) (x : Answer) (r : Run) → IsShadowMove m → Appends r.shared (step w r (m, x)).shared → Passes r → Passes (step w r (m, x))
   shadow-passes m x r s g h = by_stage h
     where
@@ -321,6 +345,7 @@ module _ (w : World) (q : State) (fits : (i : ℕ) → q.registers i < 2 ^ 64) (
 
   -- ---- each move
 
+  -- each move that stays in the stub leads on
   move-passes : (m : Move) (x : Answer) (r : Run) (e : Option RunEnd) → r.end ≡ e → Passes r → (step_unless e w r (m, x)).view ≡ Stub
       → (IsShadowMove m → Appends r.shared (step w r (m, x)).shared) → Passes (step_unless e w r (m, x))
   move-passes m x r (Some e) z h v g = same-passes r _ refl refl refl h
@@ -329,6 +354,7 @@ module _ (w : World) (q : State) (fits : (i : ℕ) → q.registers i < 2 ^ 64) (
   move-passes S x r None z h v g = subst (λ e. Passes (step_unless e w r (S, x))) z (shadow-passes S x r tt (g tt) h)
   move-passes T x r None z h v g = subst (λ e. Passes (step_unless e w r (T, x))) z (shadow-passes T x r tt (g tt) h)
 
+  -- so does each list of moves
   run-passes : (ms : Moves) (r : Run) → Passes r → Passing w r ms → Passes (run_from w r ms)
   unfolding run_from
   run-passes [] r h p = h
@@ -336,6 +362,7 @@ module _ (w : World) (q : State) (fits : (i : ℕ) → q.registers i < 2 ^ 64) (
 
   -- ---- the word that leaves the stub
 
+  -- at the word that leaves the stub the call is behind the own hart
   passage-ends : (gate leave : Run) → gate.at_gate ≡ q → gate.shared ≡ before → gate.own_done ≡ done → gate.restarts ≡ restarts → Passes leave → IsLeaving leave → IsPassage w gate leave
   passage-ends gate leave g m d n (at_word t p k a b c page row f u count is) l =
       let last : k ≡ 27 = omega (arith, ap (λ p. p.own.pc) is, l.word) in
@@ -354,6 +381,7 @@ module _ (w : World) (q : State) (fits : (i : ℕ) → q.registers i < 2 ^ 64) (
             (subst (λ m. Outcome q key count m leave.asked leave.shared) (sym m) (subst (λ asked. Outcome q key count before asked leave.shared) (sym was_asked) o));
       }
 
+-- what a passage does to the log
 pub stub_keeps_log : StubKeepsLog
 stub_keeps_log w a ms x on p small log passing leaving =
     let program : Run = run w ms in

@@ -5,14 +5,17 @@ use Rattle.spec_base.specs.Word.{byte_of}
 use Rattle.rv_model.specs.Memory.{Memory, patched, stored, loaded}
 
 module _ (m : Memory) (base n : ℕ) (f : Memory) where
+  -- a byte below a patch is as before
   patched-below : (a : ℕ) → a < base → patched m base n f a ≡ m a
   unfolding patched
   patched-below a l = grind (arith, nat_tests)
 
+  -- and one above it
   patched-above : (a : ℕ) → base + n ≤ a → patched m base n f a ≡ m a
   unfolding patched
   patched-above a l = grind (arith, nat_tests)
 
+  -- a byte in a patch is what was patched in
   patched-inside : (a i : ℕ) → a ≡ base + i → i < n → patched m base n f a ≡ f i
   unfolding patched
   patched-inside a i e l = grind (arith, nat_tests)

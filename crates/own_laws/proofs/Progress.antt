@@ -28,6 +28,7 @@ Done n r = (is_some r.end ≡ true) ⊎ (n < r.own_done)
 abbrev OwnComes : Moves → Run → Type 0
 OwnComes ms r = HasOwn ms ⊎ (r.stalled ≡ true)
 
+-- or a fetch, or no stall
 abbrev FetchComes : Moves → Run → Type 0
 FetchComes ms r = HasFetch ms ⊎ (r.stalled ≡ false)
 
@@ -38,6 +39,7 @@ module _ (w : World) (accepted : Accepted w) where
     side : OwnSide w (side_of r)
     demand : r.end ≡ None → Demand r
 
+  -- what is demanded after a move
   demand-after : (r r' : Run) (m : Move) → Moved r r' m → r'.end ≡ None → Demand r'
   demand-after r r' m (gets (done e d)) z = d
   demand-after r r' m (gets (ends e)) z = false_true (sym (ap is_some z) ∙ e)
@@ -48,6 +50,7 @@ module _ (w : World) (accepted : Accepted w) where
   step-ended : (r : Run) (m : Move) (x : Answer) (e : RunEnd) → r.end ≡ Some e → step w r (m, x) ≡ silent r
   step-ended r m x e z = ap (λ end. step_unless end w r (m, x)) z
 
+  -- a step keeps it
   keeps : (r : Run) (m : Move) (x : Answer) → Keeps r → Keeps (step w r (m, x))
   keeps r m x k = record { side = step-goes w accepted r m x k.side; demand = λ z. by_end r.end refl z }
     where
@@ -55,6 +58,7 @@ module _ (w : World) (accepted : Accepted w) where
       by_end None p z = demand-after r _ m (move-moved w accepted r m x k.side (k.demand p) p) z
       by_end (Some e) p z = none_some (sym z ∙ ap (λ n. n.end) (step-ended r m x e p) ∙ p)
 
+  -- so does a list of moves
   all_keeps : (ms : Moves) (r : Run) → Keeps r → Keeps (run_from w r ms)
   unfolding run_from
   all_keeps [] r k = k
@@ -62,6 +66,7 @@ module _ (w : World) (accepted : Accepted w) where
 
   -- ---- no move brings back what is done
 
+  -- a move that gets on or is idle
   most-after : (r r' : Run) (n k : ℕ) (m : Move) → r.end ≡ None → Moved r r' m → AtMost n k r → AtMost n k r'
   most-after r r' n k m z y (stopped o) = false_true (sym (ap is_some z) ∙ o)
   most-after r r' n k m z (gets (done e d)) (more l) = more (omega (arith, l, e))
@@ -73,11 +78,13 @@ module _ (w : World) (accepted : Accepted w) where
   most-after r r' n k m z (gets (lower e f d)) (still s l) = still (e ∙ s) (omega (arith, f, l))
   most-after r r' n k m z (idle e d a b) (still s l) = still (ap (λ p. p.tally.done) e ∙ s) (subst (λ i. i ≤ k) (sym (ap rank e)) l)
 
+  -- what is told changes nothing
   silent-most : (r : Run) (n k : ℕ) → AtMost n k r → AtMost n k (silent r)
   silent-most r n k (stopped o) = stopped o
   silent-most r n k (more l) = more l
   silent-most r n k (still s l) = still s l
 
+  -- a step
   step-most : (r : Run) (n k : ℕ) (m : Move) (x : Answer) → Keeps r → AtMost n k r → AtMost n k (step w r (m, x))
   step-most r n k m x i h = by_end r.end refl
     where
@@ -85,6 +92,7 @@ module _ (w : World) (accepted : Accepted w) where
       by_end (Some e) p = subst (λ r. AtMost n k r) (sym (step-ended r m x e p)) (silent-most r n k h)
       by_end None p = most-after r _ n k m p (move-moved w accepted r m x i.side (i.demand p) p) h
 
+  -- a list of moves
   run-most : (ms : Moves) (r : Run) (n k : ℕ) → Keeps r → AtMost n k r → AtMost n k (run_from w r ms)
   unfolding run_from
   run-most [] r n k i h = h
@@ -92,12 +100,14 @@ module _ (w : World) (accepted : Accepted w) where
 
   -- ---- a stretch with an own move and a fetch lowers what is left
 
+  -- the own move comes first, or later
   first_own : (m : Move) (x : Answer) (ms : Moves) → HasOwn ((m, x) ∷ ms) → (m ≡ O) ⊎ HasOwn ms
   first_own O x ms h = inl refl
   first_own S x ms h = inr h
   first_own T x ms h = inr h
   first_own D x ms h = inr h
 
+  -- the fetch comes first, or later
   first_fetch : (m : Move) (x : Answer) (ms : Moves) → HasFetch ((m, x) ∷ ms) → (m ≡ D) ⊎ HasFetch ms
   first_fetch D x ms h = inl refl
   first_fetch O x ms h = inr h
@@ -113,6 +123,7 @@ module _ (w : World) (accepted : Accepted w) where
       by_first (inl e) = inr (same ∙ own e)
       by_first (inr o) = inl o
 
+  -- the same of the fetch
   fetch_left : (m : Move × Answer) (ms : Moves) (r r' : Run) → r'.stalled ≡ r.stalled → (m.0 ≡ D → r.stalled ≡ false) → FetchComes (m ∷ ms) r → FetchComes ms r'
   fetch_left m ms r r' same fetch (inr t) = inr (same ∙ t)
   fetch_left m ms r r' same fetch (inl o) = by_first (first_fetch m.0 m.1 ms o)
@@ -121,6 +132,7 @@ module _ (w : World) (accepted : Accepted w) where
       by_first (inl e) = inr (same ∙ fetch e)
       by_first (inr o) = inl o
 
+  -- so after a stretch one own move less is left
   stretch : (ms : Moves) (r : Run) (n k : ℕ) → Keeps r → AtMost n (suc k) r → OwnComes ms r → FetchComes ms r → AtMost n k (run_from w r ms)
   unfolding run_from
   stretch ms r n k i (stopped o) a b = run-most ms r n k i (stopped o)
@@ -160,6 +172,7 @@ module _ (w : World) (accepted : Accepted w) where
   rank-positive r (called t q s k page h f y p is) d z = omega (arith, ap rank is, rank-stub q s t false 27 s.registers page)
   rank-positive r (over s e h o) d z = none_some (sym z ∙ o.ended)
 
+  -- where none is left, an instruction is done or the run is over
   nothing_left : (r : Run) (n : ℕ) → Keeps r → AtMost n 0 r → Done n r
   nothing_left r n i (stopped o) = inl o
   nothing_left r n i (more l) = inr l
@@ -169,11 +182,13 @@ module _ (w : World) (accepted : Accepted w) where
       by_end (Some e) p = inl (ap is_some p)
       by_end None p = absurd (omega (arith, l, rank-positive r i.side (i.demand p) p))
 
+  -- two lists of moves one after the other
   run_from-append : (a b : Moves) (r : Run) → run_from w r (a ++ b) ≡ run_from w (run_from w r a) b
   unfolding run_from
   run_from-append [] b r = refl
   run_from-append (m ∷ a) b r = run_from-append a b (step w r m)
 
+  -- k stretches use up k own moves
   finish : (k : ℕ) (ms : Moves) (r : Run) (n : ℕ) → Keeps r → AtMost n k r → Stretches k ms → Done n (run_from w r ms)
   finish zero ms r n i h s = nothing_left _ n (all_keeps ms r i) (run-most ms r n 0 i h)
   finish (suc k) ms r n i h (first, rest, e, own, fetch, s) =
@@ -193,6 +208,7 @@ module _ (w : World) (accepted : Accepted w) where
   one_on : (ms : Moves) (r : Run) → Keeps r → Stretches 200 ms → Done r.own_done (run_from w r ms)
   one_on ms r i s = finish 200 ms r r.own_done i (still refl (omega (arith, rank-most (side_of r)))) s
 
+  -- a run that is over stays so
   over_stays : (ms : Moves) (r : Run) → Keeps r → is_some r.end ≡ true → is_some (run_from w r ms).end ≡ true
   unfolding run_from
   over_stays [] r i e = e
@@ -206,6 +222,7 @@ module _ (w : World) (accepted : Accepted w) where
   abbrev On : ℕ → Run → Run → Type 0
   On q r r' = (is_some r'.end ≡ true) ⊎ (r.own_done + q ≤ r'.own_done)
 
+  -- 200 q stretches complete q instructions, or the run is over
   gets_on : (q : ℕ) (ms : Moves) (r : Run) → Keeps r → Stretches (200 * q) ms → On q r (run_from w r ms)
   gets_on zero ms r i s = by_most (run-most ms r r.own_done 137 i (still refl (rank-most (side_of r))))
     where
@@ -232,6 +249,7 @@ unfolding run_from
 run-demand w a ms z =
     (all_keeps w a ms (opened_run w) (record { side = own_side w a []; demand = λ z. record { same = refl; room = λ e. false_true e } })).demand z
 
+-- the program gets on
 pub progresses : Progress
 unfolding run_from
 progresses w a q ms s =

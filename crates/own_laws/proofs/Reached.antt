@@ -19,23 +19,27 @@ pub record Fixes (counts : List ℕ) (puts : List (ℕ × ℕ)) : Type 0 where
 abbrev pub Agrees : Taken → State → Type 0
 Agrees t s = Fixes t.out s.out.puts × Fixes t.err s.err.puts
 
+-- nothing isn't something
 pub none_some : {X A : Type 0} {x : X} → None ≡ Some x → A
 none_some {X} {A} {x} e = absurd (no e)
   where
     no : None ≡ Some x → ⊥
     no e = cc
 
+-- false isn't true
 pub false_true : {A : Type 0} → false ≡ true → A
 false_true {A} e = absurd (no e)
   where
     no : false ≡ true → ⊥
     no e = cc
 
+-- what stands before the last item
 slice_get-before : {X : Type 0} (xs : List X) (p x : X) (i : ℕ) → slice_get xs i ≡ Some x → slice_get (xs ++ p ∷ []) i ≡ Some x
 slice_get-before [] p x i e = none_some e
 slice_get-before (y ∷ xs) p x zero e = e
 slice_get-before (y ∷ xs) p x (suc i) e = slice_get-before xs p x i e
 
+-- the last item
 slice_get-last : {X : Type 0} (xs : List X) (p : X) → slice_get (xs ++ p ∷ []) (length xs) ≡ Some p
 slice_get-last [] p = refl
 slice_get-last (y ∷ xs) p = slice_get-last xs p
@@ -53,6 +57,7 @@ Fixes-counts_of puts = record { by = at puts }
     at (y ∷ puts) zero p e = cc e
     at (y ∷ puts) (suc i) p e = at puts i p e
 
+-- n bytes are n
 pub length-bytes_at : (m : Memory) (a n : ℕ) → length (bytes_at m a n) ≡ n
 unfolding bytes_at
 length-bytes_at m a zero = refl
@@ -84,6 +89,7 @@ module _ (w : World) where
       rw (add-one n)
       (ap (option_and_then (next_state w.image w.files taken)) e ∙ ap (λ exited. next_unless exited w.image w.files taken s) f ∙ ap completed g)
 
+  -- one more instruction reaches the next state
   pub reached-more : (t : Tally) (whole : Bool) (gathered : ℕ) (s s' : State) → Reached w t s → s.exited ≡ None → LeadsTo w t whole s s' → Reached w (completed_tally whole gathered t) s'
   reached-more t whole gathered s s' h f l =
       record {

@@ -19,6 +19,7 @@ pub record Tally : Type 0 where
   pub gathered : ℕ
   pub asked : Bool
 
+-- the counts of a run
 abbrev pub tally_of : Run → Tally
 tally_of r =
     record {
@@ -44,6 +45,7 @@ pub record Side : Type 0 where
   pub tally : Tally
   pub end : Option RunEnd
 
+-- the own side of a run
 abbrev pub side_of : Run → Side
 side_of r =
     record { own = r.own; site = r.site; gate = r.at_gate; view = r.view; page = r.own_page; stalled = r.stalled; tally = tally_of r; end = r.end }
@@ -75,6 +77,7 @@ abbrev pub part_of : Side → OwnPart
 part_of p =
     record { own = p.own; site = p.site; view = p.view; page = p.page; asked = p.tally.asked; stalled = p.stalled; gathered = p.tally.gathered; done = p.tally.done; end = p.end }
 
+-- it is the run's
 part_of_side : (r : Run) → part_of (side_of r) ≡ own_part r
 part_of_side r = refl
 
@@ -85,5 +88,6 @@ pub record Kept : Type 0 where
   pub text : List ℕ
   pub demanded : Option BlockSpot
 
+-- what a run has of it
 abbrev pub kept_of : Run → Kept
 kept_of r = record { side = side_of r; text = r.text; demanded = r.cache.demanded }

@@ -26,11 +26,11 @@ abbrev pub Saved29 : Memory → Registers → Type 0
 Saved29 page q = loaded page (2 ^ 64 - 24) 8 ≡ q 29
 
 -- x31, then x30 too, then x29 too
-pub record Two (page : Memory) (q : Registers) : Type 0 where
+pub record SavedTwo (page : Memory) (q : Registers) : Type 0 where
   pub x31 : Saved31 page q
   pub x30 : Saved30 page q
 
-pub record All (page : Memory) (q : Registers) : Type 0 where
+pub record SavedAll (page : Memory) (q : Registers) : Type 0 where
   pub x31 : Saved31 page q
   pub x30 : Saved30 page q
   pub x29 : Saved29 page q
@@ -41,40 +41,40 @@ pub data Row (q : Registers) : ℕ → ℕ → ℕ → ℕ → Memory → Type 0
   w2 : {page : Memory} → Saved31 page q → Row q 2 (q 29) (q 30) (q 31) page
   w3 : {c : ℕ} {page : Memory} → Saved31 page q → Row q 3 (q 29) (q 30) c page
   w4 : {c : ℕ} {page : Memory} → Saved31 page q → Row q 4 (q 29) (q 30) c page
-  w5 : {c : ℕ} {page : Memory} → Two page q → Row q 5 (q 29) (q 30) c page
-  w6 : {c : ℕ} {page : Memory} → All page q → Row q 6 (q 29) (q 30) c page
-  w7 : {a b c : ℕ} {page : Memory} → All page q → Row q 7 a b c page
-  w8 : {a c : ℕ} {page : Memory} → All page q → Row q 8 a 0x4200_0000 c page
-  w9 : {a c : ℕ} {page : Memory} → All page q → Row q 9 a 0x4200_0000 c page
-  w10 : {a c : ℕ} {page : Memory} → All page q → Row q 10 a 0x4200_0000 c page
-  w11 : {a c : ℕ} {page : Memory} → All page q → Row q 11 a 0x4200_0000 c page
-  w12 : {a : ℕ} {page : Memory} → All page q → Row q 12 a 0x4200_0000 (bit_and a 63) page
-  w13 : {a : ℕ} {page : Memory} → All page q → Row q 13 a 0x4200_0000 (wrap (bit_and a 63 * 2 ^ 4)) page
-  w14 : {a b c : ℕ} {page : Memory} → All page q → InLog c → Row q 14 a b c page
-  w15 : {a b c : ℕ} {page : Memory} → All page q → InLog c → Row q 15 a b c page
-  w16 : {a b c : ℕ} {page : Memory} → All page q → InLog c → Row q 16 a b c page
-  w17 : {a b c : ℕ} {page : Memory} → All page q → InLog c → Row q 17 a b c page
-  w18 : {a b c : ℕ} {page : Memory} → All page q → Row q 18 a b c page
-  w19 : {a b c : ℕ} {page : Memory} → All page q → Row q 19 a b c page
-  w20 : {a c : ℕ} {page : Memory} → All page q → Row q 20 a 0x4200_0000 c page
-  w21 : {a c : ℕ} {page : Memory} → All page q → Row q 21 a 0x4200_0000 c page
-  w22 : {a c : ℕ} {page : Memory} → All page q → Row q 22 a 0x4200_0000 c page
-  w23 : {a b c : ℕ} {page : Memory} → All page q → Row q 23 a b c page
-  w24 : {b c : ℕ} {page : Memory} → Two page q → Row q 24 (q 29) b c page
+  w5 : {c : ℕ} {page : Memory} → SavedTwo page q → Row q 5 (q 29) (q 30) c page
+  w6 : {c : ℕ} {page : Memory} → SavedAll page q → Row q 6 (q 29) (q 30) c page
+  w7 : {a b c : ℕ} {page : Memory} → SavedAll page q → Row q 7 a b c page
+  w8 : {a c : ℕ} {page : Memory} → SavedAll page q → Row q 8 a 0x4200_0000 c page
+  w9 : {a c : ℕ} {page : Memory} → SavedAll page q → Row q 9 a 0x4200_0000 c page
+  w10 : {a c : ℕ} {page : Memory} → SavedAll page q → Row q 10 a 0x4200_0000 c page
+  w11 : {a c : ℕ} {page : Memory} → SavedAll page q → Row q 11 a 0x4200_0000 c page
+  w12 : {a : ℕ} {page : Memory} → SavedAll page q → Row q 12 a 0x4200_0000 (bit_and a 63) page
+  w13 : {a : ℕ} {page : Memory} → SavedAll page q → Row q 13 a 0x4200_0000 (wrap (bit_and a 63 * 2 ^ 4)) page
+  w14 : {a b c : ℕ} {page : Memory} → SavedAll page q → InLog c → Row q 14 a b c page
+  w15 : {a b c : ℕ} {page : Memory} → SavedAll page q → InLog c → Row q 15 a b c page
+  w16 : {a b c : ℕ} {page : Memory} → SavedAll page q → InLog c → Row q 16 a b c page
+  w17 : {a b c : ℕ} {page : Memory} → SavedAll page q → InLog c → Row q 17 a b c page
+  w18 : {a b c : ℕ} {page : Memory} → SavedAll page q → Row q 18 a b c page
+  w19 : {a b c : ℕ} {page : Memory} → SavedAll page q → Row q 19 a b c page
+  w20 : {a c : ℕ} {page : Memory} → SavedAll page q → Row q 20 a 0x4200_0000 c page
+  w21 : {a c : ℕ} {page : Memory} → SavedAll page q → Row q 21 a 0x4200_0000 c page
+  w22 : {a c : ℕ} {page : Memory} → SavedAll page q → Row q 22 a 0x4200_0000 c page
+  w23 : {a b c : ℕ} {page : Memory} → SavedAll page q → Row q 23 a b c page
+  w24 : {b c : ℕ} {page : Memory} → SavedTwo page q → Row q 24 (q 29) b c page
   w25 : {c : ℕ} {page : Memory} → Saved31 page q → Row q 25 (q 29) (q 30) c page
-  w28 : {a b c : ℕ} {page : Memory} → All page q → Row q 28 a b c page
-  w29 : {a b c : ℕ} {page : Memory} → All page q → Row q 29 a b c page
-  w30 : {a c : ℕ} {page : Memory} → All page q → Row q 30 a 0x4200_0000 c page
-  w31 : {a c : ℕ} {page : Memory} → All page q → Row q 31 a 0x4200_0000 c page
-  w32 : {a b c : ℕ} {page : Memory} → All page q → Row q 32 a b c page
-  w33 : {a b : ℕ} {page : Memory} → All page q → Row q 33 a b 0x4200_1000 page
-  w34 : {a b : ℕ} {page : Memory} → All page q → Row q 34 a b 0x4200_1000 page
-  w35 : {a b : ℕ} {page : Memory} → All page q → Row q 35 a b 0x4200_1000 page
-  w36 : {a : ℕ} {page : Memory} → All page q → Row q 36 a (q 30) 0x4200_1000 page
-  w37-66 : (j : ℕ) {page : Memory} → j < 30 → Two page q → Row q (37 + j) (q 29) (q 30) 0x4200_1000 page
-  w67 : {page : Memory} → Two page q → Row q 67 (q 29) (q 30) 0x4200_1000 page
-  w68 : {b : ℕ} {page : Memory} → Two page q → Row q 68 (q 29) b 0x4200_1000 page
-  w69 : {b : ℕ} {page : Memory} → Two page q → Row q 69 (q 29) b 0x4200_1000 page
+  w28 : {a b c : ℕ} {page : Memory} → SavedAll page q → Row q 28 a b c page
+  w29 : {a b c : ℕ} {page : Memory} → SavedAll page q → Row q 29 a b c page
+  w30 : {a c : ℕ} {page : Memory} → SavedAll page q → Row q 30 a 0x4200_0000 c page
+  w31 : {a c : ℕ} {page : Memory} → SavedAll page q → Row q 31 a 0x4200_0000 c page
+  w32 : {a b c : ℕ} {page : Memory} → SavedAll page q → Row q 32 a b c page
+  w33 : {a b : ℕ} {page : Memory} → SavedAll page q → Row q 33 a b 0x4200_1000 page
+  w34 : {a b : ℕ} {page : Memory} → SavedAll page q → Row q 34 a b 0x4200_1000 page
+  w35 : {a b : ℕ} {page : Memory} → SavedAll page q → Row q 35 a b 0x4200_1000 page
+  w36 : {a : ℕ} {page : Memory} → SavedAll page q → Row q 36 a (q 30) 0x4200_1000 page
+  w37-66 : (j : ℕ) {page : Memory} → j < 30 → SavedTwo page q → Row q (37 + j) (q 29) (q 30) 0x4200_1000 page
+  w67 : {page : Memory} → SavedTwo page q → Row q 67 (q 29) (q 30) 0x4200_1000 page
+  w68 : {b : ℕ} {page : Memory} → SavedTwo page q → Row q 68 (q 29) b 0x4200_1000 page
+  w69 : {b : ℕ} {page : Memory} → SavedTwo page q → Row q 69 (q 29) b 0x4200_1000 page
   w70 : {c : ℕ} {page : Memory} → Saved31 page q → Row q 70 (q 29) (q 30) c page
   w71 : {c : ℕ} {page : Memory} → Saved31 page q → Row q 71 (q 29) (q 30) c page
 
@@ -100,17 +100,20 @@ pub data WordGoes (q : State) (t : Tally) (k : ℕ) (cache : Cache) (next : Run)
 -- ---- saves
 
 module _ (page : Memory) (q : Registers) (fits : (n : ℕ) → q n < 2 ^ 64) where
+  -- word 1 saves x31
   pub save31 : Saved31 (stored page (2 ^ 64 - 8) 8 (q 31)) q
   save31 = loaded-stored page (2 ^ 64 - 8) (q 31) (fits 31)
 
-  pub save30 : Saved31 page q → Two (stored page (2 ^ 64 - 16) 8 (q 30)) q
+  -- word 4 saves x30, and leaves that
+  pub save30 : Saved31 page q → SavedTwo (stored page (2 ^ 64 - 16) 8 (q 30)) q
   save30 s =
       record {
         x31 = loaded-above_patch page (2 ^ 64 - 16) 8 (byte_of (q 30)) (2 ^ 64 - 8) 8 (omega arith) ∙ s;
         x30 = loaded-stored page (2 ^ 64 - 16) (q 30) (fits 30);
       }
 
-  pub save29 : Two page q → All (stored page (2 ^ 64 - 24) 8 (q 29)) q
+  -- word 5 saves x29, and leaves both
+  pub save29 : SavedTwo page q → SavedAll (stored page (2 ^ 64 - 24) 8 (q 29)) q
   save29 s =
       record {
         x31 = loaded-above_patch page (2 ^ 64 - 24) 8 (byte_of (q 29)) (2 ^ 64 - 8) 8 (omega arith) ∙ s.x31;
@@ -119,7 +122,7 @@ module _ (page : Memory) (q : Registers) (fits : (n : ℕ) → q n < 2 ^ 64) whe
       }
 
   -- the key's place lies apart
-  pub save_key : (v : ℕ) → All page q → All (stored page (2 ^ 64 - 64) 8 v) q
+  pub save_key : (v : ℕ) → SavedAll page q → SavedAll (stored page (2 ^ 64 - 64) 8 v) q
   save_key v s =
       record {
         x31 = loaded-above_patch page (2 ^ 64 - 64) 8 (byte_of v) (2 ^ 64 - 8) 8 (omega arith) ∙ s.x31;
@@ -141,24 +144,28 @@ module _ (w : World) (x : Answer) (q : State) (t : Tally) (fits : (n : ℕ) → 
       → next ≡ at q t r' l a b c page → Row q.registers l a b c page → left l < left k → r'.cache ≡ r.cache → WordGoes q t k r.cache next
   to r r' k l a b c page e row less same = subst (λ n. WordGoes q t k r.cache n) (sym e) (to_row false l a b c page row refl less same)
 
+  -- word 3 leads to one of two rows
   branch_3 : (b : Bool) (r : Run) (c : ℕ) (page : Memory) → Saved31 page q.registers → WordGoes q t 3 r.cache (at q t r (branched b 25 4) (q.registers 29) (q.registers 30) c page)
   branch_3 true r c page s = to r r 3 25 _ _ c page refl (w25 s) (lit< tt) refl
   branch_3 false r c page s = to r r 3 4 _ _ c page refl (w4 s) (lit< tt) refl
 
-  branch_10 : (t? : Bool) (r : Run) (a c : ℕ) (page : Memory) → All page q.registers → WordGoes q t 10 r.cache (at q t r (branched t? 28 11) a 0x4200_0000 c page)
+  -- so does word 10
+  branch_10 : (t? : Bool) (r : Run) (a c : ℕ) (page : Memory) → SavedAll page q.registers → WordGoes q t 10 r.cache (at q t r (branched t? 28 11) a 0x4200_0000 c page)
   branch_10 true r a c page s = to r r 10 28 a _ c page refl (w28 s) (lit< tt) refl
   branch_10 false r a c page s = to r r 10 11 a _ c page refl (w11 s) (lit< tt) refl
 
-  branch_16 : (t? : Bool) (r : Run) (a b c : ℕ) (page : Memory) → All page q.registers → InLog c → WordGoes q t 16 r.cache (at q t r (branched t? 28 17) a b c page)
+  -- so does word 16
+  branch_16 : (t? : Bool) (r : Run) (a b c : ℕ) (page : Memory) → SavedAll page q.registers → InLog c → WordGoes q t 16 r.cache (at q t r (branched t? 28 17) a b c page)
   branch_16 true r a b c page s l = to r r 16 28 a b c page refl (w28 s) (lit< tt) refl
   branch_16 false r a b c page s l = to r r 16 17 a b c page refl (w17 s l) (lit< tt) refl
 
-  branch_18 : (t? : Bool) (r : Run) (a b c : ℕ) (page : Memory) → All page q.registers → WordGoes q t 18 r.cache (at q t r (branched t? 28 19) a b c page)
+  -- so does word 18
+  branch_18 : (t? : Bool) (r : Run) (a b c : ℕ) (page : Memory) → SavedAll page q.registers → WordGoes q t 18 r.cache (at q t r (branched t? 28 19) a b c page)
   branch_18 true r a b c page s = to r r 18 28 a b c page refl (w28 s) (lit< tt) refl
   branch_18 false r a b c page s = to r r 18 19 a b c page refl (w19 s) (lit< tt) refl
 
   -- word 37 + j leads to the next register, and the last to word 67
-  next_register : (r : Run) (j : ℕ) (page : Memory) → j < 30 → Two page q.registers → (j + 1 < 30) ⊎ (30 ≤ j + 1)
+  next_register : (r : Run) (j : ℕ) (page : Memory) → j < 30 → SavedTwo page q.registers → (j + 1 < 30) ⊎ (30 ≤ j + 1)
       → WordGoes q t (37 + j) r.cache (after_word w x q t r (37 + j) (q.registers 29) (q.registers 30) 0x4200_1000 page)
   next_register r j page h s (inl l) =
       let r' : Run = boxed_in w x q t r (q.registers 29) (q.registers 30) j in
@@ -173,6 +180,7 @@ module _ (w : World) (x : Answer) (q : State) (t : Tally) (fits : (n : ℕ) → 
       (word_37-66 w x q t r _ _ j page h ∙ ap (λ k. at q t r' k (q.registers 29) (q.registers 30) 0x4200_1000 page) next)
       (w67 s) (grind (arith, nat_tests)) refl
 
+  -- each word leads to a row, or to the call
   pub word_goes : (r : Run) (k a b c : ℕ) (page : Memory) → Row q.registers k a b c page → WordGoes q t k r.cache (after_word w x q t r k a b c page)
   word_goes r _ a b c page w1 = to r r 1 2 _ _ _ _ (word_1 w x q t r _ _ _ page) (w2 (save31 page q.registers fits)) (lit< tt) refl
   word_goes r _ a b c page (w2 s) = to r r 2 3 _ _ _ page (word_2 w x q t r _ _ _ page) (w3 s) (lit< tt) refl

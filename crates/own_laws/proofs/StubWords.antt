@@ -32,6 +32,7 @@ abbrev pub stub_side : State → Tally → ℕ → Registers → Memory → Side
 stub_side q t k rs page =
     record { own = record q { registers = rs; pc = 0x417F_FFFC + 4 * k }; site = q.pc; gate = q; view = Stub; page = page; stalled = false; tally = t; end = None }
 
+-- a run whose own side is that
 abbrev pub at : State → Tally → Run → ℕ → ℕ → ℕ → ℕ → Memory → Run
 at q t r k a b c page = with_side r (stub_side q t k (three q.registers a b c) page)
 
@@ -42,12 +43,15 @@ restarted_tally q t = record t { own = 0; whole = true; origin = Some q; restart
 -- ---- a write to one of the three registers
 
 module _ (q : Registers) (a b c v : ℕ) where
+  -- x29 is written
   three-x29 : with_reg (three q a b c) 29 v ≡ three q v b c
   three-x29 = fun_ext (λ n. grind (arith, nat_tests))
 
+  -- x30 is written
   three-x30 : with_reg (three q a b c) 30 v ≡ three q a v c
   three-x30 = fun_ext (λ n. grind (arith, nat_tests))
 
+  -- x31 is written
   three-x31 : with_reg (three q a b c) 31 v ≡ three q a b v
   three-x31 = fun_ext (λ n. grind (arith, nat_tests))
 
@@ -70,11 +74,13 @@ link_byte a h l =
     or_right (in_private a) (in_link a)
     (and_from (nat_le 0x4200_0000 a) (nat_lt a (0x4200_0000 + 0x2000)) (le-leb 0x4200_0000 a h) (lt-ltb a (0x4200_0000 + 0x2000) l))
 
+-- so may n bytes of it
 link_bytes : (a n : ℕ) → 0x4200_0000 ≤ a → a + n ≤ 0x4200_2000 → all_from stub_rights.load a n ≡ true
 unfolding all_from
 link_bytes a zero h l = refl
 link_bytes a (suc n) h l = and_from (in_private a || in_link a) _ (link_byte a h (omega arith)) (link_bytes (a + 1) n (omega arith) (omega arith))
 
+-- a place below the private page isn't in it
 not_private : (a : ℕ) → a < 0xFFFF_FFFF_FFFF_F800 → in_private a ≡ false
 not_private a h = grind (arith, nat_tests)
 
@@ -92,10 +98,12 @@ pub record InLog (c : ℕ) : Type 0 where
   pub below : entry < 64
   pub is : c ≡ 0x4200_0000 + 16 * entry
 
+-- what stands behind a list is the next list's
 slice_get-append : {X : Type 0} (xs ys : List X) (n : ℕ) → slice_get (xs ++ ys) (length xs + n) ≡ slice_get ys n
 slice_get-append [] ys n = ap (slice_get ys) (zero-add n)
 slice_get-append (x ∷ xs) ys n = ap (slice_get (x ∷ (xs ++ ys))) (suc-add (length xs) n) ∙ slice_get-append xs ys n
 
+-- the j-th store of the box is of register i + j
 slice_get-box_stores : (i n j : ℕ) (rest : List Instr) → j < n → slice_get (box_stores i n ++ rest) j ≡ Some (sd (i + j) (pos (8 * (i + j))) 31)
 slice_get-box_stores i zero j rest h = absurd (omega arith)
 slice_get-box_stores i (suc n) zero rest h = ap (λ (k : ℕ). Some (sd k (pos (8 * k)) 31)) (omega arith)
@@ -109,6 +117,7 @@ before_box = take 36 stub
 behind_box : List Instr
 behind_box = drop 66 stub
 
+-- they are the stub
 stub_parts : stub ≡ before_box ++ (box_stores 1 30 ++ behind_box)
 unfolding before_box behind_box
 stub_parts = refl
@@ -129,6 +138,7 @@ stub_box j h =
 
 -- ---- the words
 
+-- a branch goes to one word or to another
 abbrev pub branched : Bool → ℕ → ℕ → ℕ
 branched true k l = k
 branched false k l = l
@@ -138,9 +148,11 @@ module _ (w : World) (x : Answer) (q : State) (t : Tally) where
   abbrev pub after_word : Run → ℕ → ℕ → ℕ → ℕ → Memory → Run
   after_word r k a b c page = stub_step w x (at q t r k a b c page)
 
+  -- the run at word k
   abbrev pub here : Run → ℕ → ℕ → ℕ → ℕ → Memory → Run
   here r k a b c page = at q t r k a b c page
 
+  -- the key of the call
   abbrev pub key : ℕ
   key = key_of (plan_of w.image.layout q)
 
@@ -152,12 +164,15 @@ module _ (w : World) (x : Answer) (q : State) (t : Tally) where
   abbrev pub stopped : Run → Run
   stopped r = record r { shadow = record r.shadow { state = Stopped } }
 
+  -- the run at word k once x29 is written
   x29 : (r : Run) (k a b c v : ℕ) (page : Memory) → with_side r (stub_side q t k (with_reg (three q.registers a b c) 29 v) page) ≡ here r k v b c page
   x29 r k a b c v page = ap (λ rs. with_side r (stub_side q t k rs page)) (three-x29 q.registers a b c v)
 
+  -- once x30 is written
   x30 : (r : Run) (k a b c v : ℕ) (page : Memory) → with_side r (stub_side q t k (with_reg (three q.registers a b c) 30 v) page) ≡ here r k a v c page
   x30 r k a b c v page = ap (λ rs. with_side r (stub_side q t k rs page)) (three-x30 q.registers a b c v)
 
+  -- once x31 is written
   x31 : (r : Run) (k a b c v : ℕ) (page : Memory) → with_side r (stub_side q t k (with_reg (three q.registers a b c) 31 v) page) ≡ here r k a b v page
   x31 r k a b c v page = ap (λ rs. with_side r (stub_side q t k rs page)) (three-x31 q.registers a b c v)
 
@@ -350,6 +365,7 @@ module _ (w : World) (x : Answer) (q : State) (t : Tally) where
       (eq-eqb (place % 8) 0 h) (link_bytes place 8 l m)
       ∙ ap (λ (v : ℕ). stub_after w x (here r k a b c page) (steps_on (with_reg (three q.registers a b c) rd v) pc)) (loaded-shared r.shared page place 8 (omega arith))
 
+  -- a load of 8 bytes of a pair
   log_load : (r : Run) (a b c k offset : ℕ) (page : Memory) (pc : ℕ) → InLog c → offset % 8 ≡ 0 → offset < 280
       → stub_after w x (here r k a b c page) (load_effect stub_rights (stub_sees r.shared page) Ld (three q.registers a b c) pc 29 (wrap (c + offset)))
       ≡ stub_after w x (here r k a b c page) (steps_on (with_reg (three q.registers a b c) 29 (loaded r.shared (c + offset) 8)) pc)
