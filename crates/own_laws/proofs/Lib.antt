@@ -16,3 +16,4 @@ pub mod OneCall
 pub mod LogChanges
 pub mod LogRows
 pub mod Passage
+pub mod HeldRows

@@ -149,7 +149,7 @@ place_found log =
     record { in_log = in_log (log_head log); is = omega (arith, e) }
 
 -- a register below x31 is the program's where x29 and x30 are
-three-low : (q : Registers) (c j : ℕ) → j < 30 → three q (q 29) (q 30) c (suc j) ≡ q (suc j)
+pub three-low : (q : Registers) (c j : ℕ) → j < 30 → three q (q 29) (q 30) c (suc j) ≡ q (suc j)
 three-low q c j h = by_tests (suc j) (suc j == 31) (suc j == 30) (suc j == 29) refl refl refl (omega arith)
   where
     by_tests : (n : ℕ) (x y z : Bool) → (n == 31) ≡ x → (n == 30) ≡ y → (n == 29) ≡ z → n < 31

@@ -66,7 +66,7 @@ pub record Over (w : World) (s : State) (p : Side) (e : RunEnd) : Type 0 where
 
 pub data OwnSide (w : World) (p : Side) : Type 0 where
   in_program : (t : Tally) (site : ℕ) (gate s : State) (page : Memory) → Reached w t s → s.exited ≡ None → p ≡ program_side s site gate page t → OwnSide w p
-  in_stub : (t : Tally) (q : State) (k a b c : ℕ) (page : Memory) → AtCall w t q → Row q.registers k a b c page → left k ≤ 64 → p ≡ stub_side q t k (three q.registers a b c) page → OwnSide w p
+  in_stub : (t : Tally) (q : State) (k a b c : ℕ) (page : Memory) → AtCall w t q → Row q k a b c page → left k ≤ 64 → p ≡ stub_side q t k (three q.registers a b c) page → OwnSide w p
   at_call : (t : Tally) (q : State) (page : Memory) → AtCall w t q → p ≡ stub_side q t 26 q.registers page → OwnSide w p
   waits : (t : Tally) (q : State) (page : Memory) → AtCall w t q → p ≡ waiting_side q t page → OwnSide w p
   called : (t : Tally) (q s : State) (taken : ℕ) (page : Memory) → Reached w t s → s.exited ≡ None

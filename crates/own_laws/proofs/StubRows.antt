@@ -36,47 +36,47 @@ pub record SavedAll (page : Memory) (q : Registers) : Type 0 where
   pub x29 : Saved29 page q
 
 -- what is known before each word: where x29, x30 and x31 are the program's, what else they are, and which are saved
-pub data Row (q : Registers) : ℕ → ℕ → ℕ → ℕ → Memory → Type 0 where
-  w1 : {page : Memory} → Row q 1 (q 29) (q 30) (q 31) page
-  w2 : {page : Memory} → Saved31 page q → Row q 2 (q 29) (q 30) (q 31) page
-  w3 : {c : ℕ} {page : Memory} → Saved31 page q → Row q 3 (q 29) (q 30) c page
-  w4 : {c : ℕ} {page : Memory} → Saved31 page q → Row q 4 (q 29) (q 30) c page
-  w5 : {c : ℕ} {page : Memory} → SavedTwo page q → Row q 5 (q 29) (q 30) c page
-  w6 : {c : ℕ} {page : Memory} → SavedAll page q → Row q 6 (q 29) (q 30) c page
-  w7 : {a b c : ℕ} {page : Memory} → SavedAll page q → Row q 7 a b c page
-  w8 : {a c : ℕ} {page : Memory} → SavedAll page q → Row q 8 a 0x4200_0000 c page
-  w9 : {a c : ℕ} {page : Memory} → SavedAll page q → Row q 9 a 0x4200_0000 c page
-  w10 : {a c : ℕ} {page : Memory} → SavedAll page q → Row q 10 a 0x4200_0000 c page
-  w11 : {a c : ℕ} {page : Memory} → SavedAll page q → Row q 11 a 0x4200_0000 c page
-  w12 : {a : ℕ} {page : Memory} → SavedAll page q → Row q 12 a 0x4200_0000 (bit_and a 63) page
-  w13 : {a : ℕ} {page : Memory} → SavedAll page q → Row q 13 a 0x4200_0000 (wrap (bit_and a 63 * 2 ^ 4)) page
-  w14 : {a b c : ℕ} {page : Memory} → SavedAll page q → InLog c → Row q 14 a b c page
-  w15 : {a b c : ℕ} {page : Memory} → SavedAll page q → InLog c → Row q 15 a b c page
-  w16 : {a b c : ℕ} {page : Memory} → SavedAll page q → InLog c → Row q 16 a b c page
-  w17 : {a b c : ℕ} {page : Memory} → SavedAll page q → InLog c → Row q 17 a b c page
-  w18 : {a b c : ℕ} {page : Memory} → SavedAll page q → Row q 18 a b c page
-  w19 : {a b c : ℕ} {page : Memory} → SavedAll page q → Row q 19 a b c page
-  w20 : {a c : ℕ} {page : Memory} → SavedAll page q → Row q 20 a 0x4200_0000 c page
-  w21 : {a c : ℕ} {page : Memory} → SavedAll page q → Row q 21 a 0x4200_0000 c page
-  w22 : {a c : ℕ} {page : Memory} → SavedAll page q → Row q 22 a 0x4200_0000 c page
-  w23 : {a b c : ℕ} {page : Memory} → SavedAll page q → Row q 23 a b c page
-  w24 : {b c : ℕ} {page : Memory} → SavedTwo page q → Row q 24 (q 29) b c page
-  w25 : {c : ℕ} {page : Memory} → Saved31 page q → Row q 25 (q 29) (q 30) c page
-  w28 : {a b c : ℕ} {page : Memory} → SavedAll page q → Row q 28 a b c page
-  w29 : {a b c : ℕ} {page : Memory} → SavedAll page q → Row q 29 a b c page
-  w30 : {a c : ℕ} {page : Memory} → SavedAll page q → Row q 30 a 0x4200_0000 c page
-  w31 : {a c : ℕ} {page : Memory} → SavedAll page q → Row q 31 a 0x4200_0000 c page
-  w32 : {a b c : ℕ} {page : Memory} → SavedAll page q → Row q 32 a b c page
-  w33 : {a b : ℕ} {page : Memory} → SavedAll page q → Row q 33 a b 0x4200_1000 page
-  w34 : {a b : ℕ} {page : Memory} → SavedAll page q → Row q 34 a b 0x4200_1000 page
-  w35 : {a b : ℕ} {page : Memory} → SavedAll page q → Row q 35 a b 0x4200_1000 page
-  w36 : {a : ℕ} {page : Memory} → SavedAll page q → Row q 36 a (q 30) 0x4200_1000 page
-  w37-66 : (j : ℕ) {page : Memory} → j < 30 → SavedTwo page q → Row q (37 + j) (q 29) (q 30) 0x4200_1000 page
-  w67 : {page : Memory} → SavedTwo page q → Row q 67 (q 29) (q 30) 0x4200_1000 page
-  w68 : {b : ℕ} {page : Memory} → SavedTwo page q → Row q 68 (q 29) b 0x4200_1000 page
-  w69 : {b : ℕ} {page : Memory} → SavedTwo page q → Row q 69 (q 29) b 0x4200_1000 page
-  w70 : {c : ℕ} {page : Memory} → Saved31 page q → Row q 70 (q 29) (q 30) c page
-  w71 : {c : ℕ} {page : Memory} → Saved31 page q → Row q 71 (q 29) (q 30) c page
+pub data Row (q : State) : ℕ → ℕ → ℕ → ℕ → Memory → Type 0 where
+  w1 : {page : Memory} → Row q 1 (q.registers 29) (q.registers 30) (q.registers 31) page
+  w2 : {page : Memory} → Saved31 page q.registers → Row q 2 (q.registers 29) (q.registers 30) (q.registers 31) page
+  w3 : {c : ℕ} {page : Memory} → Saved31 page q.registers → Row q 3 (q.registers 29) (q.registers 30) c page
+  w4 : {c : ℕ} {page : Memory} → Saved31 page q.registers → Row q 4 (q.registers 29) (q.registers 30) c page
+  w5 : {c : ℕ} {page : Memory} → SavedTwo page q.registers → Row q 5 (q.registers 29) (q.registers 30) c page
+  w6 : {c : ℕ} {page : Memory} → SavedAll page q.registers → Row q 6 (q.registers 29) (q.registers 30) c page
+  w7 : {a b c : ℕ} {page : Memory} → SavedAll page q.registers → Row q 7 a b c page
+  w8 : {a c : ℕ} {page : Memory} → SavedAll page q.registers → Row q 8 a 0x4200_0000 c page
+  w9 : {a c : ℕ} {page : Memory} → SavedAll page q.registers → Row q 9 a 0x4200_0000 c page
+  w10 : {a c : ℕ} {page : Memory} → SavedAll page q.registers → Row q 10 a 0x4200_0000 c page
+  w11 : {a c : ℕ} {page : Memory} → SavedAll page q.registers → Row q 11 a 0x4200_0000 c page
+  w12 : {a : ℕ} {page : Memory} → SavedAll page q.registers → Row q 12 a 0x4200_0000 (bit_and a 63) page
+  w13 : {a : ℕ} {page : Memory} → SavedAll page q.registers → Row q 13 a 0x4200_0000 (wrap (bit_and a 63 * 2 ^ 4)) page
+  w14 : {a b c : ℕ} {page : Memory} → SavedAll page q.registers → InLog c → Row q 14 a b c page
+  w15 : {a b c : ℕ} {page : Memory} → SavedAll page q.registers → InLog c → Row q 15 a b c page
+  w16 : {a b c : ℕ} {page : Memory} → SavedAll page q.registers → InLog c → Row q 16 a b c page
+  w17 : {a b c : ℕ} {page : Memory} → SavedAll page q.registers → InLog c → Row q 17 a b c page
+  w18 : {a b c : ℕ} {page : Memory} → SavedAll page q.registers → Row q 18 a b c page
+  w19 : {a b c : ℕ} {page : Memory} → SavedAll page q.registers → Row q 19 a b c page
+  w20 : {a c : ℕ} {page : Memory} → SavedAll page q.registers → Row q 20 a 0x4200_0000 c page
+  w21 : {a c : ℕ} {page : Memory} → SavedAll page q.registers → Row q 21 a 0x4200_0000 c page
+  w22 : {a c : ℕ} {page : Memory} → SavedAll page q.registers → Row q 22 a 0x4200_0000 c page
+  w23 : {a b c : ℕ} {page : Memory} → SavedAll page q.registers → Row q 23 a b c page
+  w24 : {b c : ℕ} {page : Memory} → SavedTwo page q.registers → Row q 24 (q.registers 29) b c page
+  w25 : {c : ℕ} {page : Memory} → Saved31 page q.registers → Row q 25 (q.registers 29) (q.registers 30) c page
+  w28 : {a b c : ℕ} {page : Memory} → SavedAll page q.registers → Row q 28 a b c page
+  w29 : {a b c : ℕ} {page : Memory} → SavedAll page q.registers → Row q 29 a b c page
+  w30 : {a c : ℕ} {page : Memory} → SavedAll page q.registers → Row q 30 a 0x4200_0000 c page
+  w31 : {a c : ℕ} {page : Memory} → SavedAll page q.registers → Row q 31 a 0x4200_0000 c page
+  w32 : {a b c : ℕ} {page : Memory} → SavedAll page q.registers → Row q 32 a b c page
+  w33 : {a b : ℕ} {page : Memory} → SavedAll page q.registers → Row q 33 a b 0x4200_1000 page
+  w34 : {a : ℕ} {page : Memory} → SavedAll page q.registers → Row q 34 a q.pc 0x4200_1000 page
+  w35 : {a b : ℕ} {page : Memory} → SavedAll page q.registers → Row q 35 a b 0x4200_1000 page
+  w36 : {a : ℕ} {page : Memory} → SavedAll page q.registers → Row q 36 a (q.registers 30) 0x4200_1000 page
+  w37-66 : (j : ℕ) {page : Memory} → j < 30 → SavedTwo page q.registers → Row q (37 + j) (q.registers 29) (q.registers 30) 0x4200_1000 page
+  w67 : {page : Memory} → SavedTwo page q.registers → Row q 67 (q.registers 29) (q.registers 30) 0x4200_1000 page
+  w68 : {page : Memory} → SavedTwo page q.registers → Row q 68 (q.registers 29) (q.registers 31) 0x4200_1000 page
+  w69 : {b : ℕ} {page : Memory} → SavedTwo page q.registers → Row q 69 (q.registers 29) b 0x4200_1000 page
+  w70 : {c : ℕ} {page : Memory} → Saved31 page q.registers → Row q 70 (q.registers 29) (q.registers 30) c page
+  w71 : {c : ℕ} {page : Memory} → Saved31 page q.registers → Row q 71 (q.registers 29) (q.registers 30) c page
 
 -- how many words are left up to the call, at most; from the word behind the call more than from the program's next gate
 abbrev pub left : ℕ → ℕ
@@ -93,7 +93,7 @@ tally_after false q t = t
 
 -- a word leads to a row with fewer words left, or to the call with the program's own registers; the cache is left
 pub data WordGoes (q : State) (t : Tally) (k : ℕ) (cache : Cache) (next : Run) : Type 0 where
-  to_row : (restarts : Bool) (l a b c : ℕ) (page : Memory) → Row q.registers l a b c page
+  to_row : (restarts : Bool) (l a b c : ℕ) (page : Memory) → Row q l a b c page
       → side_of next ≡ stub_side q (tally_after restarts q t) l (three q.registers a b c) page → left l < left k → next.cache ≡ cache → WordGoes q t k cache next
   to_call : (page : Memory) → side_of next ≡ stub_side q t 26 q.registers page → left 26 < left k → next.cache ≡ cache → WordGoes q t k cache next
 
@@ -141,7 +141,7 @@ in_log a =
 module _ (w : World) (x : Answer) (q : State) (t : Tally) (fits : (n : ℕ) → q.registers n < 2 ^ 64) where
   -- a word that leads to a row
   to : {next : Run} (r r' : Run) (k l a b c : ℕ) (page : Memory)
-      → next ≡ at q t r' l a b c page → Row q.registers l a b c page → left l < left k → r'.cache ≡ r.cache → WordGoes q t k r.cache next
+      → next ≡ at q t r' l a b c page → Row q l a b c page → left l < left k → r'.cache ≡ r.cache → WordGoes q t k r.cache next
   to r r' k l a b c page e row less same = subst (λ n. WordGoes q t k r.cache n) (sym e) (to_row false l a b c page row refl less same)
 
   -- word 3 leads to one of two rows
@@ -181,7 +181,7 @@ module _ (w : World) (x : Answer) (q : State) (t : Tally) (fits : (n : ℕ) → 
       (w67 s) (grind (arith, nat_tests)) refl
 
   -- each word leads to a row, or to the call
-  pub word_goes : (r : Run) (k a b c : ℕ) (page : Memory) → Row q.registers k a b c page → WordGoes q t k r.cache (after_word w x q t r k a b c page)
+  pub word_goes : (r : Run) (k a b c : ℕ) (page : Memory) → Row q k a b c page → WordGoes q t k r.cache (after_word w x q t r k a b c page)
   word_goes r _ a b c page w1 = to r r 1 2 _ _ _ _ (word_1 w x q t r _ _ _ page) (w2 (save31 page q.registers fits)) (lit< tt) refl
   word_goes r _ a b c page (w2 s) = to r r 2 3 _ _ _ page (word_2 w x q t r _ _ _ page) (w3 s) (lit< tt) refl
   word_goes r _ a b c page (w3 s) = subst (λ n. WordGoes q t 3 r.cache n) (sym (word_3 w x q t r _ _ c page)) (branch_3 (c == 0) r c page s)
@@ -204,8 +204,8 @@ module _ (w : World) (x : Answer) (q : State) (t : Tally) (fits : (n : ℕ) → 
   word_goes r _ a b c page (w20 s) = to r r 20 21 _ _ c page (word_20 w x q t r a 0 c page) (w21 s) (lit< tt) refl
   word_goes r _ a b c page (w21 s) = to r r 21 22 _ _ c page (word_21 w x q t r a _ c page) (w22 s) (lit< tt) refl
   word_goes r _ a b c page (w22 s) = to r (linked w x q t r 0x4200_0000 a) 22 23 a _ c page (word_22 w x q t r a 0 c page) (w23 s) (lit< tt) refl
-  word_goes r _ a b c page (w23 s) = to r r 23 24 _ b c page (word_23 w x q t r a b c page) (subst (λ n. Row q.registers 24 n b c page) (sym s.x29) (w24 (record { x31 = s.x31; x30 = s.x30 }))) (lit< tt) refl
-  word_goes r _ a b c page (w24 s) = to r r 24 25 _ _ c page (word_24 w x q t r _ b c page) (subst (λ n. Row q.registers 25 (q.registers 29) n c page) (sym s.x30) (w25 s.x31)) (lit< tt) refl
+  word_goes r _ a b c page (w23 s) = to r r 23 24 _ b c page (word_23 w x q t r a b c page) (subst (λ n. Row q 24 n b c page) (sym s.x29) (w24 (record { x31 = s.x31; x30 = s.x30 }))) (lit< tt) refl
+  word_goes r _ a b c page (w24 s) = to r r 24 25 _ _ c page (word_24 w x q t r _ b c page) (subst (λ n. Row q 25 (q.registers 29) n c page) (sym s.x30) (w25 s.x31)) (lit< tt) refl
   word_goes r _ a b c page (w25 s) =
       subst (λ n. WordGoes q t 25 r.cache n)
       (sym (word_25 w x q t r _ _ c page ∙ ap (λ n. at q t r 26 (q.registers 29) (q.registers 30) n page) s ∙ ap (λ rs. with_side r (stub_side q t 26 rs page)) (three-own q.registers)))
@@ -216,15 +216,15 @@ module _ (w : World) (x : Answer) (q : State) (t : Tally) (fits : (n : ℕ) → 
   word_goes r _ a b c page (w31 s) = to r (linked w x q t r 0x4200_0008 0) 31 32 a _ c page (word_31 w x q t r a 0 c page) (w32 s) (lit< tt) refl
   word_goes r _ a b c page (w32 s) = to r r 32 33 a b _ page (word_32 w x q t r a b c page) (w33 s) (lit< tt) refl
   word_goes r _ a b c page (w33 s) = to r r 33 34 a _ _ page (word_33 w x q t r a b _ page) (w34 s) (lit< tt) refl
-  word_goes r _ a b c page (w34 s) = to r (linked w x q t r 0x4200_1000 b) 34 35 a b _ page (word_34 w x q t r a b 0 page) (w35 s) (lit< tt) refl
-  word_goes r _ a b c page (w35 s) = to r r 35 36 a _ _ page (word_35 w x q t r a b _ page) (subst (λ n. Row q.registers 36 a n 0x4200_1000 page) (sym s.x30) (w36 s)) (lit< tt) refl
+  word_goes r _ a b c page (w34 s) = to r (linked w x q t r 0x4200_1000 q.pc) 34 35 a _ _ page (word_34 w x q t r a q.pc 0 page) (w35 s) (lit< tt) refl
+  word_goes r _ a b c page (w35 s) = to r r 35 36 a _ _ page (word_35 w x q t r a b _ page) (subst (λ n. Row q 36 a n 0x4200_1000 page) (sym s.x30) (w36 s)) (lit< tt) refl
   word_goes r _ a b c page (w36 s) =
       to r r 36 (37 + 0) _ _ _ page (word_36 w x q t r a _ _ page)
-      (subst (λ n. Row q.registers (37 + 0) n (q.registers 30) 0x4200_1000 page) (sym s.x29) (w37-66 0 (lit< tt) (record { x31 = s.x31; x30 = s.x30 })))
+      (subst (λ n. Row q (37 + 0) n (q.registers 30) 0x4200_1000 page) (sym s.x29) (w37-66 0 (lit< tt) (record { x31 = s.x31; x30 = s.x30 })))
       (lit< tt) refl
   word_goes r _ a b c page (w37-66 j h s) = next_register r j page h s (cases_lt (j + 1) 30)
-  word_goes r _ a b c page (w67 s) = to r r 67 68 _ _ _ page (word_67 w x q t r _ _ _ page) (w68 s) (lit< tt) refl
-  word_goes r _ a b c page (w68 s) = to r (linked w x q t r 0x4200_10F8 b) 68 69 _ b _ page (word_68 w x q t r _ b 0 page) (w69 s) (lit< tt) refl
-  word_goes r _ a b c page (w69 s) = to r r 69 70 _ _ _ page (word_69 w x q t r _ b _ page) (subst (λ n. Row q.registers 70 (q.registers 29) n 0x4200_1000 page) (sym s.x30) (w70 s.x31)) (lit< tt) refl
+  word_goes r _ a b c page (w67 s) = to r r 67 68 _ _ _ page (word_67 w x q t r _ _ _ page) (subst (λ n. Row q 68 (q.registers 29) n 0x4200_1000 page) (sym s.x31) (w68 s)) (lit< tt) refl
+  word_goes r _ a b c page (w68 s) = to r (linked w x q t r 0x4200_10F8 (q.registers 31)) 68 69 _ _ _ page (word_68 w x q t r _ _ 0 page) (w69 s) (lit< tt) refl
+  word_goes r _ a b c page (w69 s) = to r r 69 70 _ _ _ page (word_69 w x q t r _ b _ page) (subst (λ n. Row q 70 (q.registers 29) n 0x4200_1000 page) (sym s.x30) (w70 s.x31)) (lit< tt) refl
   word_goes r _ a b c page (w70 s) = subst (λ n. WordGoes q t 70 r.cache n) (sym (word_70 w x q t r _ _ c page)) (to_row true 71 _ _ c page (w71 s) refl (lit< tt) refl)
   word_goes r _ a b c page (w71 s) = to r r 71 25 _ _ c page (word_71 w x q t r _ _ c page) (w25 s) (lit< tt) refl
