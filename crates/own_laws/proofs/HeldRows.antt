@@ -1,5 +1,5 @@
 -- The stub and the link, whatever else comes between: from word 29 up to the restart the shadow is stopped, so that what the stub has stored stays there; elsewhere it stores the log's head alone.
-use Rattle.std.proofs.Common.{◌≡◌, ℕ, zero, suc, ◌+◌, ◌-◌, ◌*◌, ◌/◌, ◌%◌, ◌^◌, ◌≤◌, ◌<◌, ◌⊎◌, inl, inr, Bool, true, false, not, refl, ◌∙◌, ap, sym, subst, ◌==◌, arith, nat_le, lit<}
+use Rattle.std.proofs.Common.{◌≡◌, ℕ, suc, ◌+◌, ◌-◌, ◌*◌, ◌^◌, ◌≤◌, ◌<◌, ◌⊎◌, inl, inr, Bool, true, false, not, refl, ◌∙◌, ap, sym, subst, ◌==◌, arith, nat_le}
 use Rattle.std.specs.Prelude.{⊤}
 use Rattle.std.proofs.lemmas.Bool.{cases_lt}
 use Rattle.std.proofs.lemmas.Bool.Decides.{nat_tests}
@@ -56,9 +56,10 @@ pub data LinkChange (m m' : Memory) (s : ShadowState) : Type 0 where
   head : (v : ℕ) → m' ≡ stored m 0x4200_0000 8 v → LinkChange m m' s
   stopped_first : s ≡ Stopped → LinkChange m m' s
 
--- a word leads to a word, before which this is held
-pub data HeldGoes (q : State) (m : Memory) (s : ShadowState) (next : Run) : Type 0 where
-  to_word : (t : Tally) (l : ℕ) (rs : Registers) (page : Memory) → side_of next ≡ stub_side q t l rs page → Held q (level l) next.shared next.shadow.state → LinkChange m next.shared s → HeldGoes q m s next
+-- a word leads to a word, before which this is held; there is one restart more where the box is full, and the link is left
+pub data HeldGoes (q : State) (t : Tally) (m : Memory) (s : ShadowState) (next : Run) : Type 0 where
+  to_word : (l : ℕ) (rs : Registers) (page : Memory) → side_of next ≡ stub_side q t l rs page → Held q (level l) next.shared next.shadow.state → LinkChange m next.shared s → HeldGoes q t m s next
+  to_restarted : (rs : Registers) (page : Memory) → side_of next ≡ stub_side q (restarted_tally q t) 71 rs page → Held q (boxing 31) m s → next.shared ≡ m → HeldGoes q t m s next
 
 -- before word 37 + j registers up to j are in the box
 level-register : (j : ℕ) → j < 30 → level (37 + j) ≡ boxing j
@@ -68,11 +69,11 @@ level-register j h = grind (arith, nat_tests)
 
 module _ (w : World) (x : Answer) (q : State) (t : Tally) (fits : (n : ℕ) → q.registers n < 2 ^ 64) (place : q.pc < 2 ^ 64) where
   abbrev Leads : Run → Run → Type 0
-  Leads r next = HeldGoes q r.shared r.shadow.state next
+  Leads r next = HeldGoes q t r.shared r.shadow.state next
 
   -- a word that leads to a word with this held
   to : {next : Run} (r r' : Run) (l a b c : ℕ) (page : Memory) → next ≡ at q t r' l a b c page → Held q (level l) r'.shared r'.shadow.state → LinkChange r.shared r'.shared r.shadow.state → Leads r next
-  to r r' l a b c page e h change = subst (λ n. Leads r n) (sym e) (to_word t l (three q.registers a b c) page refl h change)
+  to r r' l a b c page e h change = subst (λ n. Leads r n) (sym e) (to_word l (three q.registers a b c) page refl h change)
 
   -- a branch leads to a word before which nothing is held
   branch : {next : Run} (t? : Bool) (r : Run) (l m a b c : ℕ) (page : Memory) → next ≡ at q t r (branched t? l m) a b c page → level l ≡ free → level m ≡ free → Leads r next
@@ -85,9 +86,11 @@ module _ (w : World) (x : Answer) (q : State) (t : Tally) (fits : (n : ℕ) → 
   register_held r j page h (s, e, b) order =
       let r' : Run = boxed_in w x q t r (q.registers 29) (q.registers 30) j in
       let is : three q.registers (q.registers 29) (q.registers 30) 0x4200_1000 (suc j) ≡ q.registers (suc j) = three-low q.registers 0x4200_1000 j h in
-      let held : Held q (boxing (suc j)) r'.shared r'.shadow.state =
-          (s, empty-box_stored r.shared (0x4200_1000 + 8 * suc j) _ (omega arith) e,
-          subst (λ v. BoxedTo (stored r.shared (0x4200_1000 + 8 * suc j) 8 v) q.pc q.registers (suc j)) (sym is) (register_boxed r.shared q.pc q.registers j (fits (suc j)) b)) in
+      let held : Held q (boxing (suc j)) r'.shared r'.shadow.state = (
+        s,
+        empty-box_stored r.shared (0x4200_1000 + 8 * suc j) _ (omega arith) e,
+        subst (λ v. BoxedTo (stored r.shared (0x4200_1000 + 8 * suc j) 8 v) q.pc q.registers (suc j)) (sym is) (register_boxed r.shared q.pc q.registers j (fits (suc j)) b),
+      ) in
       to r r' (38 + j) _ _ _ page (word_37-66 w x q t r _ _ j page h) (subst (λ v. Held q v r'.shared r'.shadow.state) (sym (next_level order)) held) (stopped_first s)
     where
       next_level : (j + 1 < 30) ⊎ (30 ≤ j + 1) → level (38 + j) ≡ boxing (suc j)
@@ -143,5 +146,5 @@ module _ (w : World) (x : Answer) (q : State) (t : Tally) (fits : (n : ℕ) → 
       to r (linked w x q t r 0x4200_10F8 (q.registers 31)) 69 _ _ _ page (word_68 w x q t r _ _ 0 page)
       (h, empty-box_stored r.shared 0x4200_10F8 (q.registers 31) (omega arith) e, register_boxed r.shared q.pc q.registers 30 (fits 31) b') (stopped_first h)
   word_held r _ a b c page (w69 s) h = to r r 70 _ _ _ page (word_69 w x q t r _ b _ page) h (same refl)
-  word_held r _ a b c page (w70 s) h = subst (λ n. Leads r n) (sym (word_70 w x q t r _ _ c page)) (to_word (restarted_tally q t) 71 _ page refl tt (same refl))
+  word_held r _ a b c page (w70 s) h = subst (λ n. Leads r n) (sym (word_70 w x q t r _ _ c page)) (to_restarted _ page refl h refl)
   word_held r _ a b c page (w71 s) h = to r r 25 _ _ c page (word_71 w x q t r _ _ c page) tt (same refl)

@@ -17,3 +17,4 @@ pub mod LogChanges
 pub mod LogRows
 pub mod Passage
 pub mod HeldRows
+pub mod HeldRuns

@@ -6,6 +6,7 @@ use Rattle.std.proofs.lemmas.Bool.Decides.{nat_tests}
 use Rattle.spec_base.specs.Layout.{image_limit}
 use Rattle.spec_base.specs.declared.layout.Version.{Version}
 use Rattle.spec_base.specs.declared.layout.Version.TheVariants.{One, Two}
+use Rattle.spec_base.specs.declared.machine.Trap.TheVariants as trap
 use Rattle.spec_base.specs.declared.machine.View.TheVariants.{Plain, Program, Stub}
 use Rattle.spec_base.specs.declared.note.ShadowState.{ShadowState}
 use Rattle.spec_base.specs.declared.note.ShadowState.TheVariants.{Stopped}
@@ -22,7 +23,7 @@ use Rattle.rv_model.specs.Registers.{reg}
 use Rattle.rv_model.specs.Effect.{Effect, Next, Stored, Trapped, Called, Gated, effect, fetched}
 use Rattle.program_model.specs.Calls.{CallPlan, Set, Look, Read, Write, Exit, key_of}
 use Rattle.program_model.specs.Cache.{Gathered, gather, blocks_of, in_flight}
-use Rattle.program_model.specs.PlainRun.{State, text_of, performed}
+use Rattle.program_model.specs.PlainRun.{State, Went, Traps, text_of, performed, at_word as plain_word, all_taken}
 use Rattle.code_model.specs.Log.{log_head, log_tail}
 use Rattle.code_model.specs.Patch.{patched_instr}
 use Rattle.run_model.specs.Run.{World, Run, RunEnd, Answer, Usual, Took, Failed, Lost}
@@ -37,7 +38,7 @@ use Rattle.own_laws.proofs.LogChanges.{Appends-again, Appends-same}
 use Rattle.own_laws.proofs.LogRows.{Phase, fresh, keyed, headed, judging, found, matching, oldest, settled, missed, halted, headless, emptied, boxing, is_asked, Fact, LogRow, r1, r71, Onward, to_row, to_restarted, to_call, log_word_goes}
 use Rattle.own_laws.proofs.OneCall.{program_stub}
 use Rattle.own_laws.proofs.OwnLaws.{own_side}
-use Rattle.own_laws.proofs.OwnSide.{OwnSide, in_program, in_stub, at_call, waits, called, over, plan, program_side, called_side, placed}
+use Rattle.own_laws.proofs.OwnSide.{OwnSide, AtCall, in_program, in_stub, at_call, waits, called, over, plan, program_side, called_side, placed}
 use Rattle.own_laws.proofs.Reached.{Reached, reached-fits, none_some, false_true}
 use Rattle.own_laws.proofs.Side.{Side, side_of, with_side, Tally, Kept}
 use Rattle.own_laws.proofs.StubWords.{three, three-own, stub_side, restarted_tally}
@@ -45,10 +46,10 @@ use Rattle.own_laws.proofs.StubWords.{three, three-own, stub_side, restarted_tal
 -- ---- the gate
 
 -- the own hart has met a gate in a plain state that was reached
-record Entered (w : World) (program gate : Run) : Type 0 where
-  tally : Tally
-  page : Memory
-  side : side_of gate ≡ stub_side program.own tally 1 program.own.registers page
+pub record Entered (w : World) (program gate : Run) : Type 0 where
+  pub tally : Tally
+  pub page : Memory
+  pub side : side_of gate ≡ stub_side program.own tally 1 program.own.registers page
   shared : gate.shared ≡ program.shared
   fits : (i : ℕ) → program.own.registers i < 2 ^ 64
   place : program.own.pc < 2 ^ 64
@@ -80,6 +81,17 @@ place-small w a pc i e =
     let end : w.image.layout.text_end ≤ image_limit w.image.layout.version = grind (arith, nat_tests, a.lawful) in
     omega (arith, inside, words, a.text, end, limit-small w.image.layout.version)
 
+-- so is the pc of a call
+pub call-place : (w : World) → Accepted w → (t : Tally) (q : State) → AtCall w t q → q.pc < 2 ^ 64
+call-place w a t q g = by_word (fetched (text_of w.image) w.image.layout.text_start q.pc) refl
+  where
+    by_word : (o : Option Instr) → fetched (text_of w.image) w.image.layout.text_start q.pc ≡ o → q.pc < 2 ^ 64
+    by_word (Some i) e = place-small w a q.pc i e
+    by_word None e = absurd (no (sym (ap (plain_word w.image w.files all_taken q) e) ∙ g.calls all_taken))
+      where
+        no : {s : State} → Traps trap.FetchOut ≡ Went s → ⊥
+        no e = cc
+
 module _ (w : World) (accepted : Accepted w) where
   module _ (base : Run) (t : Tally) (site : ℕ) (gate s : State) (page : Memory) (h : Reached w t s) where
     abbrev here : Run
@@ -108,7 +120,7 @@ module _ (w : World) (accepted : Accepted w) where
         (word-enters (fetched (text_of w.image) w.image.layout.text_start s.pc) refl) v
 
   -- an own move that leads from the program to the stub has met a gate
-  own-enters : (x : Answer) (r : Run) → OwnSide w (side_of r) → r.view ≡ Program → r.end ≡ None → (own_step w x r).view ≡ Stub → Entered w r (own_step w x r)
+  pub own-enters : (x : Answer) (r : Run) → OwnSide w (side_of r) → r.view ≡ Program → r.end ≡ None → (own_step w x r).view ≡ Stub → Entered w r (own_step w x r)
   own-enters x r (in_program t site gate s page h f is) p z v =
       placed w (λ r. (own_step w x r).view ≡ Stub → Entered w r (own_step w x r)) r _ is (program-enters r t site gate s page h) v
   own-enters x r (in_stub t q k a b c page g row most is) p z v = program_stub (sym p ∙ ap (λ p. p.view) is)
@@ -155,7 +167,7 @@ abbrev Stays : Run → Run → Type 0
 Stays r r' = (r'.shared ≡ r.shared) × (r'.shadow.state ≡ Stopped)
 
 -- each of its moves
-stopped-stays : (w : World) (r : Run) (m : Move) (x : Answer) → IsShadowMove m → r.shadow.state ≡ Stopped → Stays r (step w r (m, x))
+pub stopped-stays : (w : World) (r : Run) (m : Move) (x : Answer) → IsShadowMove m → r.shadow.state ≡ Stopped → Stays r (step w r (m, x))
 stopped-stays w r m x h e = by_end r.end m h
   where
     shadow-stays : Stays r (shadow_step w x (begun r))

@@ -2,6 +2,7 @@
 use Rattle.std.specs.Prelude.{ℕ, ◌+◌, ◌^◌, ◌≡◌, ◌≢◌, ◌≤◌, ◌<◌, Bool, true, false, [], ◌∷◌, None}
 use Rattle.spec_base.specs.declared.machine.View.TheVariants.{Program, Stub}
 use Rattle.spec_base.specs.declared.note.Move.TheVariants.{O}
+use Rattle.spec_base.specs.declared.note.ShadowState.TheVariants.{Stopped}
 use Rattle.rv_model.specs.Memory.{Memory, stored}
 use Rattle.rv_model.specs.Registers.{reg}
 use Rattle.program_model.specs.Calls.{key_of}
@@ -98,3 +99,26 @@ StubKeepsLog =
     let program = run w ms in let gate = step w program (O, x) in let leave = run_from w gate on in
     program.view ≡ Program → key_of (plan_of w.image.layout program.own) < 2 ^ 64 →
     IsLog program.shared → Passing w gate on → IsLeaving leave → IsPassage w gate leave
+
+-- ---- the link and the restart, whatever moves come between
+
+-- while the shadow isn't stopped, an own move changes no more of what they share than the log's head
+pub data LeavesLink (r next : Run) : Type 0 where
+  left : next.shared ≡ r.shared → LeavesLink r next
+  takes_head : (head : ℕ) → next.shared ≡ stored r.shared 0x4200_0000 8 head → LeavesLink r next
+  is_stopped : r.shadow.state ≡ Stopped → LeavesLink r next
+
+abbrev pub StubStopsFirst : Type 0
+StubStopsFirst = (w : World) → Accepted w → (ms : Moves) (x : Answer) → LeavesLink (run w ms) (step w (run w ms) (O, x))
+
+-- a restart finds the shadow stopped, the log empty, and site and registers at the gate in the box
+pub record RestartsFromBox (r next : Run) : Type 0 where
+  pub stopped : r.shadow.state ≡ Stopped
+  pub left : next.shared ≡ r.shared
+  pub empty : IsEmpty next.shared
+  pub boxed : IsBoxed next.shared r.at_gate
+
+abbrev pub RestartHasBox : Type 0
+RestartHasBox =
+    (w : World) → Accepted w → (ms : Moves) (x : Answer) → let r = run w ms in let next = step w r (O, x) in
+    next.restarts ≢ r.restarts → RestartsFromBox r next

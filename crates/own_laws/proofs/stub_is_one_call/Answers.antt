@@ -1,3 +1,4 @@
+use Rattle.own_laws.proofs.HeldRuns.{stub_stops_first, restart_has_box}
 use Rattle.own_laws.proofs.OneCall.{leaves_with_one_call}
 use Rattle.own_laws.proofs.Passage.{stub_keeps_log}
 use Rattle.own_laws.proofs.stub_is_one_call.Goals as goal
@@ -7,3 +8,9 @@ returns-clause-one_call c = leaves_with_one_call
 
 pub returns-clause-log : goal.returns-clause-log
 returns-clause-log c = stub_keeps_log
+
+pub returns-clause-stops_first : goal.returns-clause-stops_first
+returns-clause-stops_first c = stub_stops_first
+
+pub returns-clause-restart : goal.returns-clause-restart
+returns-clause-restart c = restart_has_box
