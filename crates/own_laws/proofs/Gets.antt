@@ -10,6 +10,7 @@ use Rattle.spec_base.specs.declared.spot.BlockSpot.{BlockSpot}
 use Rattle.spec_base.specs.declared.spot.ReadSpot.{ReadSpot}
 use Rattle.rv_decode.specs.declared.instr.Instr.{Instr}
 use Rattle.rv_model.specs.Memory.{Memory}
+use Rattle.rv_model.specs.Registers.{Registers}
 use Rattle.rv_model.specs.Rights.{data_rights}
 use Rattle.rv_model.specs.Effect.{Effect, Next, Stored, Trapped, Called, Gated, effect, fetched}
 use Rattle.program_model.specs.Calls.{CallPlan, Set, Look, Read, Write, Exit}
@@ -23,11 +24,11 @@ use Rattle.run_model.specs.OwnLaws.{Accepted}
 use Rattle.own_laws.proofs.Alike.{gated, effect-patched, fetched-map}
 use Rattle.own_laws.proofs.Demand.{rank, rank-stub, rank-program, call_rank, call_rank-most, Demand, calm, GatherOf, gather-of, few_blocks, Small, plan-small}
 use Rattle.own_laws.proofs.InvisibleShadow.{shadow_move-keeps}
-use Rattle.own_laws.proofs.OwnSide.{OwnSide, in_program, in_stub, at_call, waits, called, over, plan, program_side, called_side, placed}
+use Rattle.own_laws.proofs.OwnSide.{OwnSide, call-place, in_program, in_stub, at_call, waits, called, over, plan, program_side, called_side, placed}
 use Rattle.own_laws.proofs.Reached.{reached-fits, none_some, false_true}
 use Rattle.own_laws.proofs.Side.{side_of, with_side, Tally, Kept}
-use Rattle.own_laws.proofs.StubWords.{three, stub_side}
-use Rattle.own_laws.proofs.StubRows.{left, WordGoes, to_row, to_call, word_goes, tally_after}
+use Rattle.own_laws.proofs.StubWords.{three, stub_side, restarted_tally}
+use Rattle.own_laws.proofs.StubRows.{left, WordGoes, to_row, to_restarted, to_call, word_goes}
 
 -- an instruction is completed, the run ends, or fewer own moves are left
 pub data Gets (r r' : Run) : Type 0 where
@@ -119,23 +120,22 @@ module _ (w : World) (x : Answer) where
 
   -- ---- a word of the stub
 
-  -- a restart leaves what is done, and the gathered blocks
-  tally_after-same : (b : Bool) (q : State) (t : Tally) → ((tally_after b q t).done ≡ t.done) × ((tally_after b q t).gathered ≡ t.gathered)
-  tally_after-same true q t = (refl, refl)
-  tally_after-same false q t = (refl, refl)
-
   -- each word of the stub leaves fewer words
-  word-lowers : (r next : Run) (q : State) (t : Tally) (k : ℕ) (rs : Memory) (page : Memory)
-      → side_of r ≡ stub_side q t k rs page → is_some r.cache.demanded ≡ false → WordGoes q t k r.cache next → Gets r next
-  word-lowers r next q t k rs page e f (to_row b l x29 x30 x31 page' row is less same) =
-      let y = tally_after-same b q t in
-      lower (ap (λ p. p.tally.done) is ∙ y.0 ∙ sym (ap (λ p. p.tally.done) e))
-      (omega (arith, less, ap rank e, rank-stub q q t false k rs page, ap rank is, rank-stub q q (tally_after b q t) false l (three q.registers x29 x30 x31) page', ap (call_rank false) y.1))
+  lowers : (r next : Run) (q : State) (t t' : Tally) (k l : ℕ) (rs rs' : Registers) (page page' : Memory)
+      → side_of r ≡ stub_side q t k rs page → side_of next ≡ stub_side q t' l rs' page' → t'.done ≡ t.done → t'.gathered ≡ t.gathered → left l < left k
+      → is_some r.cache.demanded ≡ false → next.cache ≡ r.cache → Gets r next
+  lowers r next q t t' k l rs rs' page page' e is n had less f same =
+      let now : rank (side_of r) ≡ left k + call_rank false t.gathered = ap rank e ∙ rank-stub q q t false k rs page in
+      let later : rank (side_of next) ≡ left l + call_rank false t'.gathered = ap rank is ∙ rank-stub q q t' false l rs' page' in
+      lower (ap (λ p. p.tally.done) is ∙ n ∙ sym (ap (λ p. p.tally.done) e)) (omega (arith, less, now, later, ap (call_rank false) had))
       (calm next (ap (λ p. p.stalled) is) (ap (λ (c : Cache). is_some c.demanded) same ∙ f))
-  word-lowers r next q t k rs page e f (to_call page' is less same) =
-      lower (ap (λ p. p.tally.done) is ∙ sym (ap (λ p. p.tally.done) e))
-      (omega (arith, less, ap rank e, rank-stub q q t false k rs page, ap rank is, rank-stub q q t false 26 q.registers page'))
-      (calm next (ap (λ p. p.stalled) is) (ap (λ (c : Cache). is_some c.demanded) same ∙ f))
+
+  word-lowers : (r next : Run) (q : State) (t : Tally) (k : ℕ) (rs : Registers) (page : Memory) → side_of r ≡ stub_side q t k rs page
+      → is_some r.cache.demanded ≡ false → WordGoes q t k r.cache r.shared r.shadow.state next → Gets r next
+  word-lowers r next q t k rs page e f (to_row l x29 x30 x31 page' row is less same held) = lowers r next q t t k l rs _ page page' e is refl refl less f same
+  word-lowers r next q t k rs page e f (to_restarted c page' s is less same full left) =
+      lowers r next q t (restarted_tally q t) k 71 rs _ page page' e is refl refl less f same
+  word-lowers r next q t k rs page e f (to_call page' is less same left) = lowers r next q t t k 26 rs _ page page' e is refl refl less f same
 
   -- ---- an own move
 
@@ -145,7 +145,7 @@ module _ (w : World) (x : Answer) where
     own-gets r (in_program t site gate s page h f is) d n z = placed w (λ r. Demand r → Gets r (own_step w x r)) r _ is (program-gets r t site gate s page) d
     own-gets r (in_stub t q k a b c page g row most is) d n z =
         placed w (λ r. Demand r → Gets r (own_step w x r)) r _ is
-        (λ d. word-lowers _ _ q t k (three q.registers a b c) page refl (sym d.same) (word_goes w x q t (reached-fits w accepted t q g.reached) r k a b c page row)) d
+        (λ d. word-lowers _ _ q t k (three q.registers a b c) page refl (sym d.same) (word_goes w x q t (reached-fits w accepted t q g.reached) (call-place w accepted t q g) r k a b c page row)) d
     own-gets r (at_call t q page g is) d n z = placed w (λ r. Demand r → Gets r (own_step w x r)) r _ is (call-gets r t q page (plan w q) (plan-small w q)) d
     own-gets r (waits t q page g is) d n z = false_true (sym n ∙ ap (λ p. p.stalled) is)
     own-gets r (called t q s k page h f y p is) d n z =

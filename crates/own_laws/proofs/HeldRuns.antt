@@ -21,14 +21,15 @@ use Rattle.run_model.specs.OwnMoves.{program_after, program_at, call_step, read_
 use Rattle.run_model.specs.Moves.{Moves, step, step_unless, begun, silent, run, run_from, fetch_of, fetch_ends, fetch_failed, landed_with}
 use Rattle.run_model.specs.OwnLaws.{Accepted, IsShadowMove}
 use Rattle.own_laws.specs.StubLaws.{IsEmpty, IsBoxed, LeavesLink, left, takes_head, is_stopped, StubStopsFirst, RestartsFromBox, RestartHasBox}
-use Rattle.own_laws.proofs.HeldRows.{Level, free, halted, headless, emptied, boxing, level, Held, LinkChange, same, head, stopped_first, HeldGoes, to_word, to_restarted, word_held}
+use Rattle.own_laws.proofs.Held.{Level, free, halted, headless, emptied, boxing, level, Held, LinkChange, same, head, stopped_first}
 use Rattle.own_laws.proofs.InvisibleShadow.{shadow_move-keeps}
 use Rattle.own_laws.proofs.OneCall.{program_stub}
 use Rattle.own_laws.proofs.OwnLaws.{own_side}
-use Rattle.own_laws.proofs.OwnSide.{OwnSide, in_program, in_stub, at_call, waits, called, over, plan, placed, step-goes}
-use Rattle.own_laws.proofs.Passage.{Entered, own-enters, stopped-stays, call-place}
+use Rattle.own_laws.proofs.OwnSide.{OwnSide, call-place, in_program, in_stub, at_call, waits, called, over, plan, placed, step-goes}
+use Rattle.own_laws.proofs.Passage.{Entered, own-enters, stopped-stays}
 use Rattle.own_laws.proofs.Reached.{reached-fits, none_some}
 use Rattle.own_laws.proofs.Side.{side_of, with_side, Tally, Kept}
+use Rattle.own_laws.proofs.StubRows.{WordGoes, to_row, to_restarted, to_call, word_goes}
 use Rattle.own_laws.proofs.StubWords.{stub_side, restarted_tally}
 
 -- ---- what is held in a run
@@ -149,15 +150,18 @@ call-held r next at l = link_left r next l.link (by_place l.pc)
     by_place (inr e) = at_free (place_of next) 27 refl (e ∙ ap after at)
 
 -- at a word of the stub
-word-held : (r next : Run) (q : State) (t : Tally) → r.at_gate ≡ q → r.restarts ≡ t.restarts → HeldGoes q t r.shared r.shadow.state next → OwnHeld r next
-word-held r next q t g n (to_word l rs page is h change) =
-    record { held = at_word next q t l rs page is h; change = leaves r next change; restarts = inl (ap (λ p. p.tally.restarts) is ∙ sym n) }
-word-held r next q t g n (to_restarted rs page is h e) =
+word-held : (r next : Run) (q : State) (t : Tally) (k : ℕ) → r.at_gate ≡ q → r.restarts ≡ t.restarts → Held q (level k) r.shared r.shadow.state
+    → WordGoes q t k r.cache r.shared r.shadow.state next → OwnHeld r next
+word-held r next q t k g n h (to_row l x29 x30 x31 page row is less cache on) =
+    record { held = at_word next q t l _ page is (on.held h); change = leaves r next (on.change h); restarts = inl (ap (λ p. p.tally.restarts) is ∙ sym n) }
+word-held r next q t k g n h (to_restarted c page s is less cache full e) =
     record {
-      held = at_word next q (restarted_tally q t) 71 rs page is tt;
+      held = at_word next q (restarted_tally q t) 71 _ page is tt;
       change = left e;
-      restarts = inr (subst (λ g. Held g (boxing 31) r.shared r.shadow.state) (sym g) h, e);
+      restarts = inr (subst (λ g. Held g (boxing 31) r.shared r.shadow.state) (sym g) (full h), e);
     }
+word-held r next q t k g n h (to_call page is less cache e) =
+    record { held = at_word next q t 26 _ page is tt; change = left e; restarts = inl (ap (λ p. p.tally.restarts) is ∙ sym n) }
 
 module _ (w : World) (accepted : Accepted w) where
   own-held : (x : Answer) (r : Run) → r.end ≡ None → OwnSide w (side_of r) → HeldAt (place_of r) → OwnHeld r (own_step w x r)
@@ -173,7 +177,7 @@ module _ (w : World) (accepted : Accepted w) where
       link = placed w (λ r. link_of (own_step w x r) ≡ link_of r) r _ is (program_at-link w _ (fetched (rewritten_text w) w.image.layout.text_start s.pc))
   own-held x r z (in_stub t q k a b c page g row most is) held =
       placed w (λ r. HeldAt (place_of r) → OwnHeld r (own_step w x r)) r _ is
-      (λ held. word-held _ _ q t refl refl (word_held w x q t (reached-fits w accepted t q g.reached) (call-place w accepted t q g) r k a b c page row (held.by k refl refl))) held
+      (λ held. word-held _ _ q t k refl refl (held.by k refl refl) (word_goes w x q t (reached-fits w accepted t q g.reached) (call-place w accepted t q g) r k a b c page row)) held
   own-held x r z (at_call t q page g is) held =
       placed w (λ r. OwnHeld r (own_step w x r)) r _ is (call-held _ _ refl (call_step-leaves w x (with_side r (stub_side q t 26 q.registers page)) (plan w q)))
   own-held x r z (waits t q page g is) held =

@@ -16,5 +16,6 @@ pub mod OneCall
 pub mod LogChanges
 pub mod LogRows
 pub mod Passage
-pub mod HeldRows
+pub mod Held
+pub mod Text
 pub mod HeldRuns

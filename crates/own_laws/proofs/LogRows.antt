@@ -7,7 +7,6 @@ use Rattle.spec_base.specs.Word.{wrap}
 use Rattle.spec_base.specs.declared.note.ShadowState.{ShadowState}
 use Rattle.spec_base.specs.declared.note.ShadowState.TheVariants.{Stopped}
 use Rattle.rv_model.specs.Memory.{Memory, stored, loaded}
-use Rattle.rv_model.specs.Registers.{Registers}
 use Rattle.program_model.specs.Calls.{key_of}
 use Rattle.program_model.specs.PlainRun.{State, plan_of}
 use Rattle.code_model.specs.Log.{log_head, log_tail, log_place, logged}
@@ -17,7 +16,7 @@ use Rattle.own_laws.proofs.LogChanges.{Appends-same, takes-oldest, head-emptied,
 use Rattle.own_laws.proofs.Patches.{loaded-stored}
 use Rattle.own_laws.proofs.Side.{side_of, with_side, Tally}
 use Rattle.own_laws.proofs.StubRows.{Saved31, SavedTwo, SavedAll, save31, save30, save29, save_key, in_log}
-use Rattle.own_laws.proofs.StubWords.{three, three-own, stub_side, at, restarted_tally, branched, after_word, linked, stopped, boxed_in, InLog, word_1, word_2, word_3, word_4, word_5, word_6, word_7, word_8, word_9, word_10, word_11, word_12, word_13, word_14, word_15, word_16, word_17, word_18, word_19, word_20, word_21, word_22, word_23, word_24, word_25, word_28, word_29, word_30, word_31, word_32, word_33, word_34, word_35, word_36, word_37-66, word_67, word_68, word_69, word_70, word_71}
+use Rattle.own_laws.proofs.StubWords.{three, three-own, three-low, stub_side, at, restarted_tally, branched, after_word, linked, stopped, boxed_in, InLog, word_1, word_2, word_3, word_4, word_5, word_6, word_7, word_8, word_9, word_10, word_11, word_12, word_13, word_14, word_15, word_16, word_17, word_18, word_19, word_20, word_21, word_22, word_23, word_24, word_25, word_28, word_29, word_30, word_31, word_32, word_33, word_34, word_35, word_36, word_37-66, word_67, word_68, word_69, word_70, word_71}
 
 -- ---- what is known of the log
 
@@ -147,19 +146,6 @@ place_found : (log : Memory) → Place log (wrap (wrap (bit_and (log_head log) 6
 place_found log =
     let e : bit_and (log_head log) 63 ≡ log_head log % 2 ^ 6 = and_mask (log_head log) 6 in
     record { in_log = in_log (log_head log); is = omega (arith, e) }
-
--- a register below x31 is the program's where x29 and x30 are
-pub three-low : (q : Registers) (c j : ℕ) → j < 30 → three q (q 29) (q 30) c (suc j) ≡ q (suc j)
-three-low q c j h = by_tests (suc j) (suc j == 31) (suc j == 30) (suc j == 29) refl refl refl (omega arith)
-  where
-    by_tests : (n : ℕ) (x y z : Bool) → (n == 31) ≡ x → (n == 30) ≡ y → (n == 29) ≡ z → n < 31
-        → elim x [ true ↦ c | false ↦ elim y [ true ↦ q 30 | false ↦ elim z [ true ↦ q 29 | false ↦ q n ] ] ] ≡ q n
-    by_tests n true y z e f g l =
-        let is : n ≡ 31 = eqb→eq n 31 (rw e tt) in
-        absurd (omega (arith, is, l))
-    by_tests n false true z e f g l = ap q (sym (eqb→eq n 30 (rw f tt)))
-    by_tests n false false true e f g l = ap q (sym (eqb→eq n 29 (rw g tt)))
-    by_tests n false false false e f g l = refl
 
 module _ (w : World) (x : Answer) (q : State) (t : Tally) (fits : (n : ℕ) → q.registers n < 2 ^ 64) (place : q.pc < 2 ^ 64)
     (small_key : key_of (plan_of w.image.layout q) < 2 ^ 64) (before : Memory) (order : log_head before ≤ log_tail before) where

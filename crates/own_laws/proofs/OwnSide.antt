@@ -1,5 +1,5 @@
 -- The own side of a run, by stages: in the program, at a word of the stub, at its call, waiting there for a block, behind the call, or ended. Each move keeps it.
-use Rattle.std.proofs.Common.{◌≡◌, ℕ, ◌+◌, ◌*◌, ◌≤◌, Bool, true, false, not, ◌&&◌, ◌||◌, List, [], ◌∷◌, length, drop, Option, Some, None, refl, ◌∙◌, ap, sym, subst, ◌==◌, is_some, arith}
+use Rattle.std.proofs.Common.{◌≡◌, ℕ, ◌+◌, ◌*◌, ◌≤◌, Bool, true, false, not, ◌&&◌, ◌||◌, List, [], ◌∷◌, length, drop, Option, Some, None, refl, ◌∙◌, ap, sym, subst, ◌==◌, is_some, arith, ◌<◌, ◌^◌}
 use Rattle.std.proofs.lemmas.Bool.Decides.{nat_tests}
 use Rattle.std.specs.Prelude.{slice_get, unwrap_or}
 use Rattle.std.specs.Option.{option_map}
@@ -18,7 +18,7 @@ use Rattle.rv_model.specs.Rights.{data_rights}
 use Rattle.rv_model.specs.Effect.{Effect, Next, Stored, Trapped, Called, Gated, effect, fetched}
 use Rattle.program_model.specs.Calls.{CallPlan, Set, Look, Read, Write, Exit}
 use Rattle.program_model.specs.Cache.{Gathered, gather, blocks_of, in_flight}
-use Rattle.program_model.specs.PlainRun.{State, Taken, Went, next, state_after, at_word, after_effect, performed, taken_by, text_of, plan_of, all_taken, end_of}
+use Rattle.program_model.specs.PlainRun.{State, Taken, Went, next, state_after, at_word, after_effect, performed, taken_by, text_of, plan_of, all_taken, end_of, Traps as step_traps}
 use Rattle.code_model.specs.Patch.{patched_instr}
 use Rattle.run_model.specs.Run.{World, Run, RunEnd, Exits, Traps, StoreFailed, SinkFailed, Answer, Usual, Took, Failed, Lost}
 use Rattle.run_model.specs.OwnMoves.{program_after, program_at, program_step, call_step, read_on, look_done, write_step, write_done, taken_in, own_step}
@@ -28,8 +28,9 @@ use Rattle.own_laws.proofs.Alike.{gated, effect-patched, effect-no_gate, fetched
 use Rattle.own_laws.proofs.InvisibleShadow.{shadow_move-keeps}
 use Rattle.own_laws.proofs.Reached.{Reached, Agrees, Fixes-last, length-bytes_at, reached-more, reached-with, reached-fits, completed_tally, end_of-step, whole_put, none_some}
 use Rattle.own_laws.proofs.Side.{Side, side_of, with_side, Tally, Kept}
-use Rattle.own_laws.proofs.StubWords.{three, three-own, stub_side}
-use Rattle.own_laws.proofs.StubRows.{Row, w1, left, WordGoes, to_row, to_call, word_goes, tally_after}
+use Rattle.own_laws.proofs.StubWords.{three, three-own, stub_side, restarted_tally}
+use Rattle.own_laws.proofs.StubRows.{Row, w1, w71, left, WordGoes, to_row, to_restarted, to_call, word_goes}
+use Rattle.own_laws.proofs.Text.{place-small}
 
 -- ---- stages
 
@@ -46,6 +47,17 @@ pub record AtCall (w : World) (t : Tally) (q : State) : Type 0 where
   pub reached : Reached w t q
   pub going : q.exited ≡ None
   pub calls : Calls w q (plan w q)
+
+-- the pc of a call is below 2^64
+pub call-place : (w : World) → Accepted w → (t : Tally) (q : State) → AtCall w t q → q.pc < 2 ^ 64
+call-place w a t q g = by_word (fetched (text_of w.image) w.image.layout.text_start q.pc) refl
+  where
+    by_word : (o : Option Instr) → fetched (text_of w.image) w.image.layout.text_start q.pc ≡ o → q.pc < 2 ^ 64
+    by_word (Some i) e = place-small w a q.pc i e
+    by_word None e = absurd (no (sym (ap (at_word w.image w.files all_taken q) e) ∙ g.calls all_taken))
+      where
+        no : {s : State} → step_traps trap.FetchOut ≡ Went s → ⊥
+        no e = cc
 
 -- the own side in the program, waiting at the call, and behind it
 abbrev pub program_side : State → ℕ → State → Memory → Tally → Side
@@ -263,10 +275,9 @@ module _ (w : World) where
   placed P r p e h = subst (λ (p : Side). P (with_side r p)) (sym e) h
 
   -- the counts after a restart for a call
-  after_restart : (b : Bool) (t : Tally) (q : State) → AtCall w t q → AtCall w (tally_after b q t) q
+  after_restart : (t : Tally) (q : State) → AtCall w t q → AtCall w (restarted_tally q t) q
   unfolding state_after
-  after_restart false t q g = g
-  after_restart true t q g =
+  after_restart t q g =
       record { reached = record { plain = g.reached.plain; since = λ o e h. from o e; began = restarted t.restarts }; going = g.going; calls = g.calls }
     where
       from : (o : State) → Some q ≡ Some o → state_after w.image w.files all_taken o 0 ≡ Some q
@@ -276,17 +287,18 @@ module _ (w : World) where
       restarted n = grind (arith, nat_tests)
 
   -- each word of the stub leads to a stage
-  stub-goes : (t : Tally) (q : State) (k : ℕ) (r r' : Run) → AtCall w t q → left k ≤ 64 → WordGoes q t k r.cache r' → OwnSide w (side_of r')
-  stub-goes t q k r r' g most (to_row b l x29 x30 x31 page row is less same) =
-      in_stub (tally_after b q t) q l x29 x30 x31 page (after_restart b t q g) row (omega (arith, less, most)) is
-  stub-goes t q k r r' g most (to_call page is less same) = at_call t q page g is
+  stub-goes : (t : Tally) (q : State) (k : ℕ) (r r' : Run) → AtCall w t q → left k ≤ 64 → WordGoes q t k r.cache r.shared r.shadow.state r' → OwnSide w (side_of r')
+  stub-goes t q k r r' g most (to_row l x29 x30 x31 page row is less same held) = in_stub t q l x29 x30 x31 page g row (omega (arith, less, most)) is
+  stub-goes t q k r r' g most (to_restarted c page s is less same full left) =
+      in_stub (restarted_tally q t) q 71 _ _ c page (after_restart t q g) (w71 s) (omega (arith, less, most)) is
+  stub-goes t q k r r' g most (to_call page is less same left) = at_call t q page g is
 
   module _ (accepted : Accepted w) where
     -- each own move leads from a stage to a stage
     own-goes : (x : Answer) (r : Run) → r.end ≡ None → OwnSide w (side_of r) → OwnSide w (side_of (own_step w x r))
     own-goes x r z (in_program t site gate s page h f is) = placed (λ r. OwnSide w (side_of (own_step w x r))) r _ is (program-goes r t site gate s page h f)
     own-goes x r z (in_stub t q k a b c page g row most is) =
-        placed (λ r. OwnSide w (side_of (own_step w x r))) r _ is (stub-goes t q k r _ g most (word_goes w x q t (reached-fits w accepted t q g.reached) r k a b c page row))
+        placed (λ r. OwnSide w (side_of (own_step w x r))) r _ is (stub-goes t q k r _ g most (word_goes w x q t (reached-fits w accepted t q g.reached) (call-place w accepted t q g) r k a b c page row))
     own-goes x r z (at_call t q page g is) = placed (λ r. OwnSide w (side_of (own_step w x r))) r _ is (call-goes r t q page g x (plan w q) refl)
     own-goes x r z (waits t q page g is) = placed (λ r. OwnSide w (side_of (own_step w x r))) r _ is (waits t q page g refl)
     own-goes x r z (called t q s k page h f y n is) =

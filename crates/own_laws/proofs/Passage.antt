@@ -1,12 +1,6 @@
 -- From the gate to the word that leaves the stub: each move keeps what the rows say of the hint log.
-use Rattle.std.proofs.Common.{◌≡◌, ℕ, suc, ◌+◌, ◌-◌, ◌*◌, ◌/◌, ◌%◌, ◌^◌, ◌≤◌, ◌<◌, Bool, true, false, ◌&&◌, List, [], ◌∷◌, length, map, nat_le, slice_get, Option, Some, None, refl, ◌∙◌, ap, sym, subst, ◌==◌, arith, is_some, drop, ap₂}
+use Rattle.std.proofs.Common.{◌≡◌, ℕ, ◌+◌, ◌^◌, ◌≤◌, ◌<◌, Bool, true, false, List, [], ◌∷◌, Option, Some, None, refl, ◌∙◌, ap, sym, subst, ◌==◌, arith, is_some, drop, ap₂}
 use Rattle.std.specs.Option.{option_map}
-use Rattle.std.proofs.lemmas.Option.{slice_get_within}
-use Rattle.std.proofs.lemmas.Bool.Decides.{nat_tests}
-use Rattle.spec_base.specs.Layout.{image_limit}
-use Rattle.spec_base.specs.declared.layout.Version.{Version}
-use Rattle.spec_base.specs.declared.layout.Version.TheVariants.{One, Two}
-use Rattle.spec_base.specs.declared.machine.Trap.TheVariants as trap
 use Rattle.spec_base.specs.declared.machine.View.TheVariants.{Plain, Program, Stub}
 use Rattle.spec_base.specs.declared.note.ShadowState.{ShadowState}
 use Rattle.spec_base.specs.declared.note.ShadowState.TheVariants.{Stopped}
@@ -23,7 +17,7 @@ use Rattle.rv_model.specs.Registers.{reg}
 use Rattle.rv_model.specs.Effect.{Effect, Next, Stored, Trapped, Called, Gated, effect, fetched}
 use Rattle.program_model.specs.Calls.{CallPlan, Set, Look, Read, Write, Exit, key_of}
 use Rattle.program_model.specs.Cache.{Gathered, gather, blocks_of, in_flight}
-use Rattle.program_model.specs.PlainRun.{State, Went, Traps, text_of, performed, at_word as plain_word, all_taken}
+use Rattle.program_model.specs.PlainRun.{State, text_of, performed}
 use Rattle.code_model.specs.Log.{log_head, log_tail}
 use Rattle.code_model.specs.Patch.{patched_instr}
 use Rattle.run_model.specs.Run.{World, Run, RunEnd, Answer, Usual, Took, Failed, Lost}
@@ -38,9 +32,10 @@ use Rattle.own_laws.proofs.LogChanges.{Appends-again, Appends-same}
 use Rattle.own_laws.proofs.LogRows.{Phase, fresh, keyed, headed, judging, found, matching, oldest, settled, missed, halted, headless, emptied, boxing, is_asked, Fact, LogRow, r1, r71, Onward, to_row, to_restarted, to_call, log_word_goes}
 use Rattle.own_laws.proofs.OneCall.{program_stub}
 use Rattle.own_laws.proofs.OwnLaws.{own_side}
-use Rattle.own_laws.proofs.OwnSide.{OwnSide, AtCall, in_program, in_stub, at_call, waits, called, over, plan, program_side, called_side, placed}
+use Rattle.own_laws.proofs.OwnSide.{OwnSide, in_program, in_stub, at_call, waits, called, over, plan, program_side, called_side, placed}
 use Rattle.own_laws.proofs.Reached.{Reached, reached-fits, none_some, false_true}
 use Rattle.own_laws.proofs.Side.{Side, side_of, with_side, Tally, Kept}
+use Rattle.own_laws.proofs.Text.{place-small}
 use Rattle.own_laws.proofs.StubWords.{three, three-own, stub_side, restarted_tally}
 
 -- ---- the gate
@@ -54,43 +49,6 @@ pub record Entered (w : World) (program gate : Run) : Type 0 where
   fits : (i : ℕ) → program.own.registers i < 2 ^ 64
   place : program.own.pc < 2 ^ 64
   asked : tally.asked ≡ false
-
--- what is fetched stands in the text
-fetched-below : {A : Type 0} (code : List A) (start pc : ℕ) (i : A) → fetched code start pc ≡ Some i → pc < start + 4 * length code
-fetched-below code start pc i e = by_test (nat_le start pc && (pc % 4 == 0)) e
-  where
-    by_test : (b : Bool) → elim b [ true ↦ slice_get code ((pc - start) / 4) | false ↦ None ] ≡ Some i → pc < start + 4 * length code
-    by_test true e = omega (arith, slice_get_within code ((pc - start) / 4) i e)
-    by_test false e = none_some e
-
--- a mapped list is as long
-length-map : {A B : Type 0} (f : A → B) (xs : List A) → length (map f xs) ≡ length xs
-length-map f [] = refl
-length-map f (x ∷ xs) = ap suc (length-map f xs)
-
--- the image's limit is below 2^64
-limit-small : (v : Version) → image_limit v < 2 ^ 64
-limit-small One = omega arith
-limit-small Two = omega arith
-
--- the pc of an instruction is below 2^64
-place-small : (w : World) → Accepted w → (pc : ℕ) (i : Instr) → fetched (text_of w.image) w.image.layout.text_start pc ≡ Some i → pc < 2 ^ 64
-place-small w a pc i e =
-    let inside : pc < w.image.layout.text_start + 4 * length (text_of w.image) = fetched-below (text_of w.image) w.image.layout.text_start pc i e in
-    let words : length (text_of w.image) ≡ length w.image.words = length-map _ w.image.words in
-    let end : w.image.layout.text_end ≤ image_limit w.image.layout.version = grind (arith, nat_tests, a.lawful) in
-    omega (arith, inside, words, a.text, end, limit-small w.image.layout.version)
-
--- so is the pc of a call
-pub call-place : (w : World) → Accepted w → (t : Tally) (q : State) → AtCall w t q → q.pc < 2 ^ 64
-call-place w a t q g = by_word (fetched (text_of w.image) w.image.layout.text_start q.pc) refl
-  where
-    by_word : (o : Option Instr) → fetched (text_of w.image) w.image.layout.text_start q.pc ≡ o → q.pc < 2 ^ 64
-    by_word (Some i) e = place-small w a q.pc i e
-    by_word None e = absurd (no (sym (ap (plain_word w.image w.files all_taken q) e) ∙ g.calls all_taken))
-      where
-        no : {s : State} → Traps trap.FetchOut ≡ Went s → ⊥
-        no e = cc
 
 module _ (w : World) (accepted : Accepted w) where
   module _ (base : Run) (t : Tally) (site : ℕ) (gate s : State) (page : Memory) (h : Reached w t s) where

@@ -66,6 +66,19 @@ three-own q = fun_ext (λ n. by_tests n (n == 31) (n == 30) (n == 29) refl refl 
     by_tests n false false true e f g = ap q (sym (eqb→eq n 29 (rw g tt)))
     by_tests n false false false e f g = refl
 
+-- a register below x31 is the program's where x29 and x30 are
+pub three-low : (q : Registers) (c j : ℕ) → j < 30 → three q (q 29) (q 30) c (suc j) ≡ q (suc j)
+three-low q c j h = by_tests (suc j) (suc j == 31) (suc j == 30) (suc j == 29) refl refl refl (omega arith)
+  where
+    by_tests : (n : ℕ) (x y z : Bool) → (n == 31) ≡ x → (n == 30) ≡ y → (n == 29) ≡ z → n < 31
+        → elim x [ true ↦ c | false ↦ elim y [ true ↦ q 30 | false ↦ elim z [ true ↦ q 29 | false ↦ q n ] ] ] ≡ q n
+    by_tests n true y z e f g l =
+        let is : n ≡ 31 = eqb→eq n 31 (rw e tt) in
+        absurd (omega (arith, is, l))
+    by_tests n false true z e f g l = ap q (sym (eqb→eq n 30 (rw f tt)))
+    by_tests n false false true e f g l = ap q (sym (eqb→eq n 29 (rw g tt)))
+    by_tests n false false false e f g l = refl
+
 -- ---- places that are known but for a number
 
 -- the stub may load and store what lies in the link
