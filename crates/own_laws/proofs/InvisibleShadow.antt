@@ -1,5 +1,5 @@
 -- A move of the shadow leaves the own side, puts nothing, and hears from the outside only that a look failed.
-use Rattle.std.proofs.Common.{◌≡◌, ℕ, Bool, true, false, List, [], ◌∷◌, Option, Some, None, refl, ap, sym, ◌∙◌}
+use Rattle.std.proofs.Common.{◌≡◌, ℕ, Bool, true, false, List, [], ◌∷◌, Option, Some, None, refl, ap, sym, ◌∙◌, ◌%◌, ◌==◌, ◌&&◌}
 use Rattle.spec_base.specs.declared.machine.View.TheVariants.{Shadow}
 use Rattle.spec_base.specs.declared.note.ShadowState.{ShadowState}
 use Rattle.spec_base.specs.declared.note.ShadowState.TheVariants.{Never, Running, Stopped, Parked}
@@ -9,17 +9,22 @@ use Rattle.spec_base.specs.declared.park.Park.TheVariants as park
 use Rattle.spec_base.specs.declared.spot.ReadSpot.{ReadSpot}
 use Rattle.spec_base.specs.declared.spot.BlockSpot.{BlockSpot}
 use Rattle.rv_decode.specs.declared.instr.Instr.{Instr}
-use Rattle.rv_decode.specs.declared.instr.Instr.TheVariants.{Hkey, Hcall, Hpark}
-use Rattle.rv_model.specs.Rights.{in_private, shadow_rights}
-use Rattle.rv_model.specs.Effect.{Effect, Next, Stored, Trapped, Called, Gated, effect}
+use Rattle.rv_decode.specs.declared.instr.Instr.TheVariants.{Hkey, Hcall, Hpark, Jal, Jalr, Branch, Load, Store}
+use Rattle.rv_model.specs.Rights.{in_private, shadow_rights, Rights}
+use Rattle.rv_model.specs.Effect.{Effect, Next, Stored, Trapped, Called, Gated, effect, jump_if, branch_if, load_if, store_if}
 use Rattle.rv_model.specs.Space.{shadow_sees}
 use Rattle.program_model.specs.Calls.{CallPlan, Set, Look, Read, Write, Exit, opened}
 use Rattle.program_model.specs.PlainRun.{size_in}
 use Rattle.program_model.specs.Cache.{Cache, hinted, all_hinted, hint_if, is_idle_hint, blocks_of}
 use Rattle.run_model.specs.Run.{World, Run, RunEnd, Answer, Usual, Took, Failed, Lost, rewritten_words}
-use Rattle.run_model.specs.ShadowMoves.{shadow_in, shadow_at_word, shadow_after, shadow_gate, shadow_stored, assumed, look_assumed, assumed_with, hint_given, fill_if, is_filled, parked, arrived_if, word_counted, fetch_shadow, is_running, is_arrival, shadow_plan}
+use Rattle.run_model.specs.ShadowMoves.{shadow_in, shadow_at_word, shadow_after, shadow_gate, shadow_stored, assumed, look_assumed, assumed_with, hint_given, fill_if, is_filled, parked, arrived_if, word_counted, fetch_shadow, is_running, is_arrival, shadow_plan, is_call_word}
 use Rattle.run_model.specs.Moves.{step, step_unless, moved, begun, shadow_while}
-use Rattle.run_model.specs.OwnLaws.{IsShadowMove, has_failed, ShadowIsInvisible}
+use Rattle.run_model.specs.OwnLaws.{IsShadowMove, has_failed, ShadowIsInvisible, is_look, asks_for_look}
+use Rattle.std.specs.Prelude.{⊤}
+use Rattle.rv_decode.specs.declared.instr.LoadOp.{LoadOp}
+use Rattle.rv_model.specs.Memory.{Memory}
+use Rattle.rv_model.specs.Registers.{Registers, reg}
+use Rattle.rv_model.specs.Arithmetic.{is_taken}
 use Rattle.own_laws.proofs.Side.{part_of, Kept, kept_of}
 use Rattle.std.proofs.Common.{◌&&◌}
 
@@ -209,6 +214,124 @@ module _ (w : World) (x y : Answer) (same : has_failed x ≡ has_failed y) where
       by_end (Some e) = refl
       by_end None = moved-alike m (begun r) h
 
+-- ---- what the shadow hears where it asks for no look
+
+-- an effect that is no call
+abbrev NoCallIn : Effect → Type 0
+NoCallIn (Gated (Hcall unhinted)) = ⊥
+NoCallIn _ = ⊤
+
+record NoCall (e : Effect) : Type 0 where
+  by : NoCallIn e
+
+-- a jump is no call
+jump_if-no_call : (b : Bool) (rs : Registers) (target : ℕ) → NoCall (jump_if b rs target)
+jump_if-no_call true rs target = record { by = tt }
+jump_if-no_call false rs target = record { by = tt }
+
+-- nor is a branch
+branch_if-no_call : (b : Bool) (rs : Registers) (pc target : ℕ) → NoCall (branch_if b rs pc target)
+branch_if-no_call true rs pc target = jump_if-no_call (target % 4 == 0) rs target
+branch_if-no_call false rs pc target = record { by = tt }
+
+-- nor is a load
+load_if-no_call : (x y : Bool) (m : Memory) (op : LoadOp) (rs : Registers) (pc rd a : ℕ) → NoCall (load_if x y m op rs pc rd a)
+load_if-no_call false y m op rs pc rd a = record { by = tt }
+load_if-no_call true false m op rs pc rd a = record { by = tt }
+load_if-no_call true true m op rs pc rd a = record { by = tt }
+
+-- nor is a store
+store_if-no_call : (x y : Bool) (a width v : ℕ) → NoCall (store_if x y a width v)
+store_if-no_call false y a width v = record { by = tt }
+store_if-no_call true false a width v = record { by = tt }
+store_if-no_call true true a width v = record { by = tt }
+
+-- only a call's word is a call
+effect-no_call : (r : Rights) (m : Memory) (rs : Registers) (pc : ℕ) (i : Instr) → is_call_word (Some i) ≡ false → NoCall (effect Shadow r m rs pc i)
+effect-no_call r m rs pc (Jal rd imm) h = jump_if-no_call _ _ _
+effect-no_call r m rs pc (Jalr rd rs1 imm) h = jump_if-no_call _ _ _
+effect-no_call r m rs pc (Branch op rs1 rs2 imm) h = branch_if-no_call (is_taken op (reg rs rs1) (reg rs rs2)) rs pc _
+effect-no_call r m rs pc (Load op rd rs1 imm) h = load_if-no_call _ _ m op rs pc rd _
+effect-no_call r m rs pc (Store op rs1 rs2 imm) h = store_if-no_call _ _ _ _ _
+effect-no_call r m rs pc (Hcall unhinted) h = absurd (no h)
+  where
+    no : true ≡ false → ⊥
+    no e = cc
+effect-no_call r m rs pc _ h = record { by = tt }
+
+-- two answers of any kind
+module _ (w : World) (x y : Answer) where
+  -- a call that is no look is assumed alike
+  assumed-deaf : (r : Run) (unhinted : Bool) (plan : CallPlan) → is_look plan ≡ false → assumed w x r unhinted plan ≡ assumed w y r unhinted plan
+  assumed-deaf r unhinted (Look name) h = absurd (no h)
+    where
+      no : true ≡ false → ⊥
+      no e = cc
+  assumed-deaf r unhinted (Set f answer) h = refl
+  assumed-deaf r unhinted (Read d spot a) h = refl
+  assumed-deaf r unhinted (Write to_out a n) h = refl
+  assumed-deaf r unhinted (Exit code) h = refl
+
+  -- a gate that is no call does the same
+  gate-deaf : (r : Run) (i : Instr) → NoCall (Gated i) → shadow_gate w x r i ≡ shadow_gate w y r i
+  gate-deaf r (Hcall unhinted) n = absurd n.by
+  gate-deaf r (Hkey rd) n = refl
+  gate-deaf r (Hpark cause) n = refl
+  gate-deaf r _ n = refl
+
+  -- so does an effect that is no call
+  after-deaf : (r : Run) (e : Effect) → NoCall e → shadow_after w x r e ≡ shadow_after w y r e
+  after-deaf r (Gated i) n = gate-deaf r i n
+  after-deaf r (Next rs pc) n = refl
+  after-deaf r (Stored a width v) n = refl
+  after-deaf r (Trapped cause) n = refl
+  after-deaf r Called n = refl
+
+  -- so does an instruction that asks for no look
+  instr-deaf : (r : Run) (i : Instr) (b : Bool) → is_call_word (Some i) ≡ b → (b && is_look (shadow_plan w r)) ≡ false
+      → shadow_after w x r (shadow_effect w r i) ≡ shadow_after w y r (shadow_effect w r i)
+  instr-deaf r i false e h =
+      after-deaf r (shadow_effect w r i)
+      (effect-no_call (shadow_rights w.image.layout) (shadow_sees w.image.layout (rewritten_words w) r.own.memory r.shared r.shadow_page) r.shadow.registers r.shadow.pc i e)
+  instr-deaf r (Hcall unhinted) true e h = assumed-deaf r unhinted (shadow_plan w r) h
+  instr-deaf r _ true e h = absurd (no e)
+    where
+      no : false ≡ true → ⊥
+      no e = cc
+
+  -- so does a word
+  word-deaf : (r : Run) (o : Option Instr) → (is_call_word o && is_look (shadow_plan w r)) ≡ false → shadow_at_word w x r o ≡ shadow_at_word w y r o
+  word-deaf r None h = refl
+  word-deaf r (Some i) h =
+      ap (λ (next : Run). arrived_if (is_running next.shadow.state && is_arrival w.image.layout next.shadow.pc) next) (instr-deaf r i (is_call_word (Some i)) refl h)
+
+  -- and a word of a shadow that may run
+  in-deaf : (s : ShadowState) (r : Run) → asks_for_look w r ≡ false → shadow_in s w x r ≡ shadow_in s w y r
+  in-deaf Running r h = ap word_counted (word-deaf r (fetch_shadow w r.shadow.pc) h)
+  in-deaf Never r h = refl
+  in-deaf Stopped r h = refl
+  in-deaf (Parked cause) r h = refl
+
+  -- and that may have to wait for a stall
+  while-deaf : (b : Bool) (r : Run) → asks_for_look w r ≡ false → shadow_while b w x r ≡ shadow_while b w y r
+  while-deaf true r h = in-deaf r.shadow.state r h
+  while-deaf false r h = refl
+
+  -- so does a move of the shadow
+  moved-deaf : (m : Move) (r : Run) → IsShadowMove m → asks_for_look w r ≡ false → moved w x r m ≡ moved w y r m
+  moved-deaf S r s h = in-deaf r.shadow.state r h
+  moved-deaf T r s h = while-deaf r.stalled r h
+  moved-deaf O r s h = elim s [ ]
+  moved-deaf D r s h = elim s [ ]
+
+  -- so does a step
+  step-deaf : (r : Run) (m : Move) → IsShadowMove m → asks_for_look w r ≡ false → step w r (m, x) ≡ step w r (m, y)
+  step-deaf r m s h = by_end r.end
+    where
+      by_end : (e : Option RunEnd) → step_unless e w r (m, x) ≡ step_unless e w r (m, y)
+      by_end (Some e) = refl
+      by_end None = moved-deaf m (begun r) s h
+
 -- ---- the law
 
 -- the shadow is invisible
@@ -219,4 +342,5 @@ shadow_is_invisible w r m x h =
       leaves = ap (λ (k : Kept). part_of k.side) kept;
       puts_nothing = ap (λ (k : Kept). k.text) kept;
       hears_failure_alone = λ y same. step-alike w x y same r m h;
+      hears_looks_alone = λ y deaf. step-deaf w x y r m h deaf;
     }

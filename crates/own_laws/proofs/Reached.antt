@@ -110,7 +110,7 @@ module _ (w : World) where
   pub reached-fits : Accepted w → (t : Tally) (s : State) → Reached w t s → (i : ℕ) → s.registers i < 2 ^ 64
   reached-fits a t s h =
       let taken : Taken = record { out = counts_of s.out.puts; err = counts_of s.err.puts } in
-      (reached-sized w.files a.files w.image taken w.image.start s t.done (record { registers = a.registers; memory = a.memory })
+      (reached-sized w.files (λ name bytes e. (a.files name bytes e).1) w.image taken w.image.start s t.done (record { registers = a.registers; memory = a.memory })
       (h.plain taken (Fixes-counts_of s.out.puts, Fixes-counts_of s.err.puts))).registers
 
 -- ---- a put

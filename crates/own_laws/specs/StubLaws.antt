@@ -1,5 +1,6 @@
 -- A passage through the stub: one call is performed, and the hint log is left, loses its oldest pair, or is emptied before a restart (this project's own).
-use Rattle.std.specs.Prelude.{ℕ, ◌+◌, ◌^◌, ◌≡◌, ◌≢◌, ◌≤◌, ◌<◌, Bool, true, false, [], ◌∷◌, None}
+use Rattle.std.specs.Prelude.{ℕ, ◌+◌, ◌*◌, ◌^◌, ◌≡◌, ◌≢◌, ◌≤◌, ◌<◌, Bool, true, false, [], ◌∷◌, None}
+use Rattle.spec_base.specs.Layout.{stub_start, link_start}
 use Rattle.spec_base.specs.declared.machine.View.TheVariants.{Program, Stub}
 use Rattle.spec_base.specs.declared.note.Move.TheVariants.{O}
 use Rattle.spec_base.specs.declared.note.ShadowState.TheVariants.{Stopped}
@@ -16,7 +17,7 @@ use Rattle.run_model.specs.OwnLaws.{Accepted, IsShadowMove}
 
 -- the stub's word 27, HLEAVE
 abbrev pub leave_word : ℕ
-leave_word = 0x4180_0068
+leave_word = stub_start + 4 * 26
 
 -- the own hart is about to leave the stub
 pub record IsLeaving (r : Run) : Type 0 where
@@ -54,7 +55,7 @@ pub record IsOldest (log : Memory) (key count : ℕ) : Type 0 where
 
 -- the log without its oldest pair
 abbrev pub without_oldest : Memory → Memory
-without_oldest log = stored log 0x4200_0000 8 (log_head log + 1)
+without_oldest log = stored log link_start 8 (log_head log + 1)
 
 pub record IsEmpty (log : Memory) : Type 0 where
   pub head : log_head log ≡ 0
@@ -105,7 +106,7 @@ StubKeepsLog =
 -- while the shadow isn't stopped, an own move changes no more of what they share than the log's head
 pub data LeavesLink (r next : Run) : Type 0 where
   left : next.shared ≡ r.shared → LeavesLink r next
-  takes_head : (head : ℕ) → next.shared ≡ stored r.shared 0x4200_0000 8 head → LeavesLink r next
+  takes_head : (head : ℕ) → next.shared ≡ stored r.shared link_start 8 head → LeavesLink r next
   is_stopped : r.shadow.state ≡ Stopped → LeavesLink r next
 
 abbrev pub StubStopsFirst : Type 0
