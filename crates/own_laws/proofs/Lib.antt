@@ -19,3 +19,4 @@ pub mod Passage
 pub mod Held
 pub mod Text
 pub mod HeldRuns
+pub mod Offsets
