@@ -1,7 +1,7 @@
 -- In every plain state the registers are below 2^64 and the bytes below 256.
 use Rattle.std.proofs.Common.{◌≡◌, ℕ, zero, suc, ◌+◌, ◌-◌, ◌%◌, ◌^◌, ◌≤◌, ◌<◌, ◌⊎◌, inl, inr, Bool, true, false, pos, List, [], length, take, drop, get_or, ◌==◌, Option, Some, None, refl, sym, subst, arith, lit<}
 use Rattle.std.specs.Prelude.{⊤, unwrap_or}
-use Rattle.std.specs.Option.{option_and_then}
+use Rattle.std.specs.Option.{option_and_then, option_map}
 use Rattle.std.proofs.lemmas.List.{get_or_past}
 use Rattle.std.proofs.lemmas.List.Elements.{All-get_or, All-take, All-drop, All-nil}
 use Rattle.std.proofs.lemmas.Bool.{cases_lt}
@@ -14,12 +14,14 @@ use Rattle.rv_decode.specs.declared.instr.Instr.TheVariants.{Lui, Auipc, Jal, Ja
 use Rattle.rv_decode.specs.declared.instr.LoadOp.{LoadOp}
 use Rattle.rv_model.specs.Memory.{Memory, patched, loaded, is_within}
 use Rattle.rv_model.specs.Registers.{Registers, reg, with_reg}
-use Rattle.rv_model.specs.Rights.{Rights, data_rights}
+use Rattle.rv_model.specs.Rights.{Rights, data_rights, is_data}
 use Rattle.rv_model.specs.Arithmetic.{is_taken, load_width, extended}
 use Rattle.rv_model.specs.Effect.{Effect, Next, Stored, Trapped, Called, Gated, effect, fetched, jump_if, branch_if, load_if, store_if}
-use Rattle.program_model.specs.Calls.{CallPlan, Set, Look, Read, Write, Exit, bytes_read}
-use Rattle.program_model.specs.PlainRun.{State, Image, Taken, Step, Went, Traps, text_of, plan_of, performed, taken_by, after_effect, at_word, next, completed, next_unless, next_state, state_after}
+use Rattle.program_model.specs.Calls.{CallPlan, Set, Look, Read, Write, Exit, bytes_read, kind_of}
+use Rattle.program_model.specs.PlainRun.{State, Image, Taken, Step, Went, Traps, text_of, plan_of, performed, taken_by, after_effect, at_word, next, completed, next_unless, next_state, state_after, size_in}
 use Rattle.run_model.specs.OwnLaws.{AllBytes}
+use Rattle.spec_base.specs.declared.layout.Layout.{Layout}
+use Rattle.own_laws.proofs.Offsets.{Lawful, PlanFits, plan_by-fits, opened-lawful, after_read-lawful}
 use Rattle.own_laws.proofs.Results.{Bytes, load-small, imm_result-small, imm_w_result-small, reg_result-small, reg_w_result-small, wrap-small, word_of_int-small}
 
 -- each register is below 2^64
@@ -118,9 +120,9 @@ get_or-below bytes h i = by_case (cases_lt i (length bytes))
     by_case (inl l) = All-get_or (λ b. b < 256) bytes i 0 l h
     by_case (inr l) = subst (λ n. n < 256) (sym (get_or_past bytes i 0 l)) (lit< tt)
 
--- each file has bytes
+-- each file has fewer than 2^56 bytes
 abbrev pub FileBytes : Files → Type 0
-FileBytes files = (name : Name) (bytes : List ℕ) → files name ≡ Some bytes → AllBytes bytes
+FileBytes files = (name : Name) (bytes : List ℕ) → files name ≡ Some bytes → (length bytes < 2 ^ 56) × AllBytes bytes
 
 -- a read gives bytes
 bytes_read-below : (files : Files) (spot : ReadSpot) → FileBytes files → AllBytes (bytes_read files spot)
@@ -128,14 +130,15 @@ bytes_read-below files spot h = by_content (files spot.name) refl
   where
     by_content : (o : Option (List ℕ)) → files spot.name ≡ o → AllBytes (take spot.count (drop spot.offset (unwrap_or o [])))
     by_content None e = All-take (λ b. b < 256) spot.count _ (All-drop (λ b. b < 256) spot.offset [] (All-nil (λ b. b < 256)))
-    by_content (Some bytes) e = All-take (λ b. b < 256) spot.count _ (All-drop (λ b. b < 256) spot.offset bytes (h spot.name bytes e))
+    by_content (Some bytes) e = All-take (λ b. b < 256) spot.count _ (All-drop (λ b. b < 256) spot.offset bytes (h spot.name bytes e).1)
 
 -- ---- states
 
--- a state whose registers are below 2^64 and whose bytes are below 256
+-- a state whose registers are below 2^64, whose bytes are below 256, and whose descriptors are lawful
 pub record Sized (s : State) : Type 0 where
   pub registers : Words s.registers
   pub memory : Bytes s.memory
+  pub files : Lawful s.files
 
 -- a step leads to a sized state, if to any
 abbrev SizedIn : Step → Type 0
@@ -147,27 +150,56 @@ abbrev SizedOption : Option State → Type 0
 SizedOption None = ⊤
 SizedOption (Some s) = Sized s
 
+-- the plan of a call fits lawful descriptors
+pub plan-fits : (l : Layout) (s : State) → Lawful s.files → PlanFits s.files (plan_of l s)
+plan-fits l s h = plan_by-fits s.files h (is_data l) s.memory (kind_of (reg s.registers 17)) (reg s.registers 10) (reg s.registers 11) (reg s.registers 12)
+
+abbrev SmallOption : Option ℕ → Type 0
+SmallOption None = ⊤
+SmallOption (Some size) = size < 2 ^ 56
+
 module _ (files : Files) (h : FileBytes files) where
+  -- the size of a file is below 2^56
+  size_in-small : (name : Name) (size : ℕ) → size_in files name ≡ Some size → size < 2 ^ 56
+  size_in-small name size e = by_content (files name) refl e
+    where
+      by_content : (o : Option (List ℕ)) → files name ≡ o → option_map length o ≡ Some size → size < 2 ^ 56
+      by_content (Some bytes) g e = subst (λ o. SmallOption o) e (h name bytes g).0
+      by_content None g e = absurd (no e)
+        where
+          no : None ≡ Some size → ⊥
+          no e = cc
+
   -- a call leads from a sized state to a sized one
-  performed-sized : (taken : ℕ) (plan : CallPlan) (s : State) → Sized s → Sized (performed files taken plan s)
-  performed-sized taken (Set f answer) s z = record { registers = with_reg-words s.registers 10 _ z.registers (word_of_int-small answer); memory = z.memory }
-  performed-sized taken (Look name) s z = record { registers = with_reg-words s.registers 10 _ z.registers (word_of_int-small _); memory = z.memory }
-  performed-sized taken (Read d spot a) s z =
+  performed-sized : (taken : ℕ) (plan : CallPlan) (s : State) → PlanFits s.files plan → Sized s → Sized (performed files taken plan s)
+  performed-sized taken (Set f answer) s l z =
+      record { registers = with_reg-words s.registers 10 _ z.registers (word_of_int-small answer); memory = z.memory; files = l.by }
+  performed-sized taken (Look name) s l z =
+      record {
+        registers = with_reg-words s.registers 10 _ z.registers (word_of_int-small _);
+        memory = z.memory;
+        files = opened-lawful s.files z.files name (size_in files name) (size_in-small name);
+      }
+  performed-sized taken (Read d spot a) s l z =
       record {
         registers = with_reg-words s.registers 10 _ z.registers (word_of_int-small (pos spot.count));
         memory = patched-bytes s.memory a _ _ z.memory (get_or-below (bytes_read files spot) (bytes_read-below files spot h));
+        files = after_read-lawful s.files z.files d spot.count (l.by).2;
       }
-  performed-sized taken (Write true a n) s z = record { registers = with_reg-words s.registers 10 _ z.registers (word_of_int-small (pos taken)); memory = z.memory }
-  performed-sized taken (Write false a n) s z = record { registers = with_reg-words s.registers 10 _ z.registers (word_of_int-small (pos taken)); memory = z.memory }
-  performed-sized taken (Exit code) s z = record { registers = z.registers; memory = z.memory }
+  performed-sized taken (Write true a n) s l z =
+      record { registers = with_reg-words s.registers 10 _ z.registers (word_of_int-small (pos taken)); memory = z.memory; files = z.files }
+  performed-sized taken (Write false a n) s l z =
+      record { registers = with_reg-words s.registers 10 _ z.registers (word_of_int-small (pos taken)); memory = z.memory; files = z.files }
+  performed-sized taken (Exit code) s l z = record { registers = z.registers; memory = z.memory; files = z.files }
 
   module _ (p : Image) (t : Taken) where
     -- each effect does
     after_effect-sized : (s : State) (e : Effect) → Sized s → WordsAfter e → SizedIn (after_effect p files t s e)
-    after_effect-sized s (Next rs pc) z b = record { registers = b.by; memory = z.memory }
-    after_effect-sized s (Stored a width v) z b = record { registers = z.registers; memory = patched-bytes s.memory a width (byte_of v) z.memory (byte_of-below v) }
+    after_effect-sized s (Next rs pc) z b = record { registers = b.by; memory = z.memory; files = z.files }
+    after_effect-sized s (Stored a width v) z b =
+        record { registers = z.registers; memory = patched-bytes s.memory a width (byte_of v) z.memory (byte_of-below v); files = z.files }
     after_effect-sized s (Trapped cause) z b = tt
-    after_effect-sized s Called z b = performed-sized (taken_by t (plan_of p.layout s) s) (plan_of p.layout s) s z
+    after_effect-sized s Called z b = performed-sized (taken_by t (plan_of p.layout s) s) (plan_of p.layout s) s (plan-fits p.layout s z.files) z
     after_effect-sized s (Gated i) z b = tt
 
     -- each instruction does

@@ -1,17 +1,18 @@
 -- In every plain state there are 32 descriptors, whose sizes and offsets are below 2^56: so a call's key is a number of 64 bits.
-use Rattle.std.proofs.Common.{◌≡◌, ℕ, zero, suc, ◌+◌, ◌-◌, ◌*◌, ◌%◌, ◌^◌, ◌≤◌, ◌<◌, Bool, true, false, ◌&&◌, ℤ, pos, negsuc, List, [], ◌∷◌, length, replicate, nat_le, nat_lt, ◌==◌, Option, Some, None, refl, ◌∙◌, ap, sym, subst, arith, lit<, min}
+use Rattle.std.proofs.Common.{◌≡◌, ℕ, zero, suc, ◌%◌, ◌^◌, ◌<◌, Bool, true, false, ◌&&◌, ℤ, pos, negsuc, List, [], ◌∷◌, length, replicate, nat_le, nat_lt, ◌==◌, Option, Some, None, refl, ◌∙◌, ap, sym, subst, arith, lit<, min}
 use Rattle.std.specs.Prelude.{⊤, slice_get, slice_set, unwrap_or, ◌+ℤ◌}
 use Rattle.std.proofs.lemmas.Option.{slice_get_within}
 use Rattle.std.proofs.lemmas.Bool.Decides.{nat_tests}
-use Rattle.spec_base.specs.Files.{Name, Files}
+use Rattle.spec_base.specs.Files.{Name}
 use Rattle.spec_base.specs.declared.spot.ReadSpot.{ReadSpot}
 use Rattle.rv_model.specs.Memory.{Memory, all_from}
 use Rattle.rv_model.specs.Arithmetic.{signed}
-use Rattle.program_model.specs.Descriptors.{Descriptor, Free, Null, Out, Err, File, Descriptors, slot, with_slot, start_of, lowest_free, EINVAL, EFAULT}
-use Rattle.program_model.specs.Calls.{CallPlan, Set, Look, Read, Write, Exit, CallKind, Open, OpenAt, Close, Seek, ReadFile, WriteFile, ExitProgram, Break, Unknown, Named, Refused, Whole, name_at, look_if_free, open_named, open_plan, close_plan, seek_base, moved_to, seek_from, seek_plan, read_count, read_if, read_plan, put_if, put_plan, write_plan, break_plan, plan_by, opened, opened_at, advanced, after_read, key_of}
+use Rattle.program_model.specs.Descriptors.{Descriptor, Free, Null, Out, Err, File, Descriptors, slot, with_slot, start_of, lowest_free, EINVAL}
+use Rattle.program_model.specs.Calls.{CallPlan, Set, Look, Read, Write, Exit, CallKind, Open, OpenAt, Close, Seek, ReadFile, WriteFile, ExitProgram, Break, Unknown, Named, Refused, Whole, name_at, look_if_free, open_named, open_plan, close_plan, seek_base, moved_to, seek_from, seek_plan, read_count, read_if, read_plan, put_if, write_plan, break_plan, plan_by, opened, opened_at, advanced, after_read, key_of}
 
 -- ---- descriptors
 
+-- what a file's descriptor has to be
 abbrev FitsIn : Descriptor → Type 0
 FitsIn (File name size offset) = (size < 2 ^ 56) × (offset < 2 ^ 56)
 FitsIn Free = ⊤
@@ -33,11 +34,13 @@ pub record Lawful (f : Descriptors) : Type 0 where
   pub count : length f.slots ≡ 32
   pub each : AllFit f.slots
 
+-- a descriptor that takes another's place leaves their number
 length-slice_set : (xs : List Descriptor) (i : ℕ) (x : Descriptor) → length (slice_set xs i x) ≡ length xs
 length-slice_set [] i x = refl
 length-slice_set (y ∷ xs) zero x = refl
 length-slice_set (y ∷ xs) (suc i) x = ap suc (length-slice_set xs i x)
 
+-- and, where it fits, leaves them fitting
 AllFit-slice_set : (xs : List Descriptor) (i : ℕ) (x : Descriptor) → AllFit xs → Fits x → AllFit (slice_set xs i x)
 AllFit-slice_set [] i x h l = tt
 AllFit-slice_set (y ∷ xs) zero x h l = (l, h.1)
@@ -49,6 +52,7 @@ Fits-slot [] i h = record { by = tt }
 Fits-slot (x ∷ xs) zero h = h.0
 Fits-slot (x ∷ xs) (suc i) h = Fits-slot xs i h.1
 
+-- free descriptors fit
 AllFit-replicate : (n : ℕ) → AllFit (replicate n Free)
 AllFit-replicate zero = tt
 AllFit-replicate (suc n) = (record { by = tt }, AllFit-replicate n)
@@ -74,6 +78,7 @@ file-below xs d name size offset e = by_item (slice_get xs d) refl e
 
 -- ---- plans
 
+-- what a plan has to be
 abbrev PlanFitsIn : Descriptors → CallPlan → Type 0
 PlanFitsIn f (Set g answer) = Lawful g
 PlanFitsIn f (Read d spot a) = (spot.offset < 2 ^ 56) × (d < 32) × Fits (advanced (slot f d) spot.count)
@@ -90,6 +95,7 @@ module _ (f : Descriptors) (h : Lawful f) where
   leaves : (answer : ℤ) → PlanFits f (Set f answer)
   leaves answer = record { by = h }
 
+  -- an open by a name leaves them
   open_named-fits : (n : Named) → PlanFits f (open_named f n)
   open_named-fits (Refused answer) = leaves answer
   open_named-fits (Whole name) = by_free (lowest_free f.slots 0)
@@ -98,6 +104,7 @@ module _ (f : Descriptors) (h : Lawful f) where
       by_free None = leaves _
       by_free (Some d) = record { by = tt }
 
+  -- so does one by an address
   open_plan-fits : (data_at : ℕ → Bool) (m : Memory) (name flags : ℕ) → PlanFits f (open_plan data_at m f name flags)
   open_plan-fits data_at m name flags = by_test (flags % 4 == 0)
     where
@@ -109,6 +116,7 @@ module _ (f : Descriptors) (h : Lawful f) where
   closes : (d : ℕ) (answer : ℤ) → PlanFits f (Set (with_slot f d Free) answer)
   closes d answer = record { by = with_slot-lawful f d Free h (record { by = tt }) }
 
+  -- a close frees one, or none
   close_plan-fits : (d : ℕ) (x : Descriptor) → PlanFits f (close_plan f d x)
   close_plan-fits d Free = leaves _
   close_plan-fits d Null = closes d _
@@ -116,6 +124,7 @@ module _ (f : Descriptors) (h : Lawful f) where
   close_plan-fits d Err = closes d _
   close_plan-fits d (File name size offset) = closes d _
 
+  -- a move of an offset is to one below 2^56, or refused
   moved_to-fits : (d : ℕ) (name : Name) (size : ℕ) (z : ℤ) → size < 2 ^ 56 → PlanFits f (moved_to f d name size z)
   moved_to-fits d name size (negsuc n) l = leaves _
   moved_to-fits d name size (pos n) l = by_test (nat_lt n (2 ^ 56)) refl
@@ -124,10 +133,12 @@ module _ (f : Descriptors) (h : Lawful f) where
       by_test true e = record { by = with_slot-lawful f d (File name size n) h (record { by = (l, grind (arith, nat_tests, e)) }) }
       by_test false e = leaves _
 
+  -- so it is from a base
   seek_from-fits : (d : ℕ) (name : Name) (size distance : ℕ) (o : Option ℕ) → size < 2 ^ 56 → PlanFits f (seek_from f d name size distance o)
   seek_from-fits d name size distance None l = leaves _
   seek_from-fits d name size distance (Some base) l = moved_to-fits d name size (pos base +ℤ signed distance) l
 
+  -- so it is by a call
   seek_plan-fits : (d : ℕ) (x : Descriptor) (distance whence : ℕ) → Fits x → PlanFits f (seek_plan f d x distance whence)
   seek_plan-fits d (File name size offset) distance whence l = seek_from-fits d name size distance (seek_base offset size whence) (l.by).0
   seek_plan-fits d Free distance whence l = leaves _
@@ -135,10 +146,12 @@ module _ (f : Descriptors) (h : Lawful f) where
   seek_plan-fits d Out distance whence l = leaves _
   seek_plan-fits d Err distance whence l = leaves _
 
+  -- a read may be refused
   read_if-fits : (b : Bool) (d : ℕ) (spot : ReadSpot) (a : ℕ) → PlanFits f (Read d spot a) → PlanFits f (read_if b f d spot a)
   read_if-fits true d spot a l = l
   read_if-fits false d spot a l = leaves _
 
+  -- a read ends in its file, or reads nothing
   read_plan-fits : (data_at : ℕ → Bool) (d : ℕ) (x : Descriptor) (a asked : ℕ) → slot f d ≡ x → Fits x → PlanFits f (read_plan data_at f d x a asked)
   read_plan-fits data_at d (File name size offset) a asked e l =
       let n : ℕ = read_count asked size offset in
@@ -152,11 +165,13 @@ module _ (f : Descriptors) (h : Lawful f) where
   read_plan-fits data_at d Out a asked e l = leaves _
   read_plan-fits data_at d Err a asked e l = leaves _
 
+  -- a put leaves them
   put_if-fits : (b to_out : Bool) (a n : ℕ) → PlanFits f (put_if b f to_out a n)
   put_if-fits false to_out a n = leaves _
   put_if-fits true to_out a zero = leaves _
   put_if-fits true to_out a (suc n) = record { by = tt }
 
+  -- so does a write
   write_plan-fits : (data_at : ℕ → Bool) (x : Descriptor) (a asked : ℕ) → PlanFits f (write_plan data_at f x a asked)
   write_plan-fits data_at Out a asked = put_if-fits (all_from data_at a (min asked 65536)) true a (min asked 65536)
   write_plan-fits data_at Err a asked = put_if-fits (all_from data_at a (min asked 65536)) false a (min asked 65536)
@@ -164,6 +179,7 @@ module _ (f : Descriptors) (h : Lawful f) where
   write_plan-fits data_at Null a asked = leaves _
   write_plan-fits data_at (File name size offset) a asked = leaves _
 
+  -- so does a move of the break
   break_plan-fits : (to : ℕ) → PlanFits f (break_plan f to)
   break_plan-fits to = by_test (nat_le f.break_start to && nat_le to f.break_most)
     where

@@ -33,7 +33,7 @@ use Rattle.own_laws.proofs.LogRows.{Phase, fresh, keyed, headed, judging, found,
 use Rattle.own_laws.proofs.OneCall.{program_stub}
 use Rattle.own_laws.proofs.OwnLaws.{own_side}
 use Rattle.own_laws.proofs.OwnSide.{OwnSide, in_program, in_stub, at_call, waits, called, over, plan, program_side, called_side, placed}
-use Rattle.own_laws.proofs.Reached.{Reached, reached-fits, none_some, false_true}
+use Rattle.own_laws.proofs.Reached.{Reached, reached-fits, none_some, false_true, reached-key}
 use Rattle.own_laws.proofs.Side.{Side, side_of, with_side, Tally, Kept}
 use Rattle.own_laws.proofs.Text.{place-small}
 use Rattle.own_laws.proofs.StubWords.{three, three-own, stub_side, restarted_tally}
@@ -48,6 +48,7 @@ pub record Entered (w : World) (program gate : Run) : Type 0 where
   shared : gate.shared ≡ program.shared
   fits : (i : ℕ) → program.own.registers i < 2 ^ 64
   place : program.own.pc < 2 ^ 64
+  key : key_of (plan w program.own) < 2 ^ 64
   asked : tally.asked ≡ false
 
 module _ (w : World) (accepted : Accepted w) where
@@ -60,8 +61,8 @@ module _ (w : World) (accepted : Accepted w) where
     after_effect-enters (Next rs pc) p v = program_stub v
     after_effect-enters (Stored a width n) p v = program_stub v
     after_effect-enters (Trapped cause) p v = program_stub v
-    after_effect-enters Called p v = record { tally = record t { asked = false }; page = page; side = refl; shared = refl; fits = reached-fits w accepted t s h; place = p; asked = refl }
-    after_effect-enters (Gated i) p v = record { tally = record t { asked = false }; page = page; side = refl; shared = refl; fits = reached-fits w accepted t s h; place = p; asked = refl }
+    after_effect-enters Called p v = record { tally = record t { asked = false }; page = page; side = refl; shared = refl; fits = reached-fits w accepted t s h; place = p; key = reached-key w accepted t s h; asked = refl }
+    after_effect-enters (Gated i) p v = record { tally = record t { asked = false }; page = page; side = refl; shared = refl; fits = reached-fits w accepted t s h; place = p; key = reached-key w accepted t s h; asked = refl }
 
     -- so is a word of the program
     word-enters : (o : Option Instr) → fetched (text_of w.image) w.image.layout.text_start s.pc ≡ o → (program_at w here (option_map patched_instr o)).view ≡ Stub
@@ -93,7 +94,7 @@ module _ (w : World) (accepted : Accepted w) where
   step-enters x r (Some e) z h p v = program_stub (sym p ∙ v)
   step-enters x r None z h p v =
       let y = own-enters x (begun r) h p z v in
-      record { tally = y.tally; page = y.page; side = y.side; shared = y.shared; fits = y.fits; place = y.place; asked = y.asked }
+      record { tally = y.tally; page = y.page; side = y.side; shared = y.shared; fits = y.fits; place = y.place; key = y.key; asked = y.asked }
 
 -- ---- what a move of the shadow leaves of what is known
 
@@ -353,7 +354,7 @@ module _ (w : World) (q : State) (fits : (i : ℕ) → q.registers i < 2 ^ 64) (
 
 -- what a passage does to the log
 pub stub_keeps_log : StubKeepsLog
-stub_keeps_log w a ms x on p small log passing leaving =
+stub_keeps_log w a ms x on p log passing leaving =
     let program : Run = run w ms in
     let gate : Run = step w program (O, x) in
     let y : Entered w program gate = step-enters w a x program program.end refl (own_side w a ms) p (passing-view w on gate passing) in
@@ -364,5 +365,5 @@ stub_keeps_log w a ms x on p small log passing leaving =
     at_word y.tally fresh 1 _ _ _ y.page r1 (Appends-same gate.shared below') refl
     (record { done = sym (ap (λ p. p.tally.done) y.side); restarts = sym (ap (λ p. p.tally.restarts) y.side); asked = y.asked })
     (y.side ∙ ap (λ rs. stub_side q y.tally 1 rs y.page) (sym (three-own q.registers))) in
-    passage-ends w q y.fits y.place small gate.shared order' gate.own_done gate.restarts gate (run_from w gate on) (ap (λ p. p.gate) y.side) refl refl refl
-    (run-passes w q y.fits y.place small gate.shared order' gate.own_done gate.restarts on gate start passing) leaving
+    passage-ends w q y.fits y.place y.key gate.shared order' gate.own_done gate.restarts gate (run_from w gate on) (ap (λ p. p.gate) y.side) refl refl refl
+    (run-passes w q y.fits y.place y.key gate.shared order' gate.own_done gate.restarts on gate start passing) leaving

@@ -1,12 +1,15 @@
 -- How far the plain program is: after as many instructions as the own hart has completed, and in the run from the restart after as many as since then.
-use Rattle.std.proofs.Common.{◌≡◌, ℕ, zero, suc, ◌+◌, ◌^◌, ◌<◌, Bool, true, false, not, ◌&&◌, ◌||◌, List, [], ◌∷◌, ◌++◌, length, ◌==◌, Some, None, refl, ◌∙◌, ap, sym, add-one, is_some, eqb→eq}
+use Rattle.std.proofs.Common.{◌≡◌, ℕ, zero, suc, ◌+◌, ◌^◌, ◌<◌, Bool, true, false, not, ◌&&◌, ◌||◌, List, [], ◌∷◌, ◌++◌, length, ◌==◌, Some, None, refl, ◌∙◌, ap, sym, add-one, is_some, eqb→eq, subst}
 use Rattle.std.specs.Prelude.{slice_get, unwrap_or}
 use Rattle.std.specs.Option.{option_and_then}
-use Rattle.program_model.specs.PlainRun.{State, Taken, Step, Went, next, next_state, next_unless, completed, state_after, plain_state, all_taken, end_of, end_of_step, end_unless}
+use Rattle.program_model.specs.PlainRun.{State, Taken, Step, Went, next, next_state, next_unless, completed, state_after, plain_state, all_taken, end_of, end_of_step, end_unless, plan_of}
 use Rattle.rv_model.specs.Memory.{Memory, bytes_at}
 use Rattle.run_model.specs.Run.{World}
 use Rattle.run_model.specs.OwnLaws.{Accepted, counts_of}
-use Rattle.own_laws.proofs.Bounds.{reached-sized}
+use Rattle.spec_base.specs.Layout.{image_limit}
+use Rattle.program_model.specs.Calls.{key_of}
+use Rattle.own_laws.proofs.Offsets.{Lawful, start-lawful, key-small}
+use Rattle.own_laws.proofs.Bounds.{Sized, reached-sized, plan-fits}
 use Rattle.own_laws.proofs.Side.{Tally}
 
 -- ---- counts that puts have taken
@@ -106,12 +109,23 @@ module _ (w : World) where
   pub end_of-step : (taken : Taken) (s : State) (step : Step) → s.exited ≡ None → next w.image w.files taken s ≡ step → end_of w.image w.files taken s ≡ end_of_step step s.pc
   end_of-step taken s step f g = ap (λ exited. end_unless exited w.image w.files taken s) f ∙ ap (λ z. end_of_step z s.pc) g
 
-  -- in a reached state the registers are below 2^64
-  pub reached-fits : Accepted w → (t : Tally) (s : State) → Reached w t s → (i : ℕ) → s.registers i < 2 ^ 64
-  reached-fits a t s h =
+  -- a reached state is sized
+  reached-small : Accepted w → (t : Tally) (s : State) → Reached w t s → Sized s
+  reached-small a t s h =
       let taken : Taken = record { out = counts_of s.out.puts; err = counts_of s.err.puts } in
-      (reached-sized w.files (λ name bytes e. (a.files name bytes e).1) w.image taken w.image.start s t.done (record { registers = a.registers; memory = a.memory })
-      (h.plain taken (Fixes-counts_of s.out.puts, Fixes-counts_of s.err.puts))).registers
+      let start : Lawful w.image.start.files = subst (λ f. Lawful f) (sym a.descriptors.1) (start-lawful a.descriptors.0 (image_limit w.image.layout.version)) in
+      reached-sized w.files a.files w.image taken w.image.start s t.done (record { registers = a.registers; memory = a.memory; files = start })
+      (h.plain taken (Fixes-counts_of s.out.puts, Fixes-counts_of s.err.puts))
+
+  -- so its registers are below 2^64
+  pub reached-fits : Accepted w → (t : Tally) (s : State) → Reached w t s → (i : ℕ) → s.registers i < 2 ^ 64
+  reached-fits a t s h = (reached-small a t s h).registers
+
+  -- and so is the key of its call
+  pub reached-key : Accepted w → (t : Tally) (s : State) → Reached w t s → key_of (plan_of w.image.layout s) < 2 ^ 64
+  reached-key a t s h =
+      let z : Lawful s.files = (reached-small a t s h).files in
+      key-small s.files z (plan_of w.image.layout s) (plan-fits w.image.layout s z)
 
 -- ---- a put
 

@@ -93,13 +93,12 @@ pub record IsPassage (w : World) (gate leave : Run) : Type 0 where
   pub restarts : leave.restarts ≡ restarts_after leave.asked gate.restarts
   pub log : Outcome gate.at_gate (key_of (plan_of w.image.layout gate.at_gate)) (reg gate.at_gate.registers 12) gate.shared leave.asked leave.shared
 
--- an own move meets a gate of the program, and in the moves behind it the own hart comes to leave the stub. The key is a number of 64 bits where offsets are below 2^57
+-- an own move meets a gate of the program, and in the moves behind it the own hart comes to leave the stub.
 abbrev pub StubKeepsLog : Type 0
 StubKeepsLog =
     (w : World) → Accepted w → (ms : Moves) (x : Answer) (on : Moves) →
     let program = run w ms in let gate = step w program (O, x) in let leave = run_from w gate on in
-    program.view ≡ Program → key_of (plan_of w.image.layout program.own) < 2 ^ 64 →
-    IsLog program.shared → Passing w gate on → IsLeaving leave → IsPassage w gate leave
+    program.view ≡ Program → IsLog program.shared → Passing w gate on → IsLeaving leave → IsPassage w gate leave
 
 -- ---- the link and the restart, whatever moves come between
 
