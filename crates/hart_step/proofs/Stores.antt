@@ -4,7 +4,7 @@ use Rattle.std.proofs.lemmas.Bool.Decides.{nat_tests}
 use Rattle.spec_base.specs.declared.machine.View.{View}
 use Rattle.spec_base.specs.declared.machine.View.TheVariants.{Plain, Program, Stub, Shadow}
 use Rattle.spec_base.specs.declared.machine.Trap.TheVariants as trap
-use Rattle.rv_model.specs.Effect.{Effect, Stored, Trapped, store_if}
+use Rattle.rv_model.specs.Effect.{Stored, Trapped, store_if}
 use Rattle.hart_mem.specs.declared.access.StoreFault.{StoreFault}
 use Rattle.hart_mem.specs.declared.access.StoreFault.TheVariants as fault
 use Rattle.hart_mem.specs.Held.{Held, lacks_frame, spare_of, store_if as answer_if}

@@ -1,4 +1,4 @@
-use Rattle.std.proofs.Common.{◌≡◌, ap, sym, ◌∙◌}
+use Rattle.std.proofs.Common.{ap, sym, ◌∙◌}
 use Rattle.hart_mem.specs.Held.{space_of}
 use Rattle.hart_step.specs.Core.{core_of}
 use Rattle.hart_step.specs.Step.{Outcome, effect_of}

@@ -1,4 +1,4 @@
-use Rattle.std.proofs.Common.{◌≡◌, sym}
+use Rattle.std.proofs.Common.{sym}
 use Rattle.hart_mem.specs.Access.{width_bytes}
 use Rattle.hart_step.proofs.Stores.{store_made, store_out, store_starved}
 use Rattle.hart_step.proofs.stepping.store.Goals as goal

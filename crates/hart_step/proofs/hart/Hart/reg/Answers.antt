@@ -1,4 +1,3 @@
-use Rattle.std.proofs.Common.{◌≡◌, refl}
 use Rattle.hart_step.specs.Core.{core_of}
 use Rattle.hart_step.proofs.Registers.{reg_of}
 use Rattle.hart_step.proofs.hart.Hart.reg.Goals as goal

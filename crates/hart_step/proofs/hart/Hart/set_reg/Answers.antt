@@ -1,7 +1,7 @@
-use Rattle.std.proofs.Common.{◌≡◌, ℕ, arith, refl}
+use Rattle.std.proofs.Common.{◌≡◌, arith, refl}
 use Rattle.rv_model.specs.Registers.{with_reg}
 use Rattle.hart_step.specs.Core.{core_of, registers_of}
-use Rattle.hart_step.proofs.Registers.{registers_set, with_x0}
+use Rattle.hart_step.proofs.Registers.{registers_set}
 use Rattle.hart_step.proofs.hart.Hart.set_reg.Goals as goal
 
 pub returns-then-number-ne0 : goal.returns-then-number-ne0
