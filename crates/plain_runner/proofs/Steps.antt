@@ -1,0 +1,232 @@
+-- A step of the hart is a step of the plain run.
+use Rattle.std.proofs.Common.{◌≡◌, ℕ, ◌-◌, ◌/◌, ◌%◌, Bool, true, false, ◌&&◌, ◌==◌, nat_le, List, [], map, Option, Some, None, refl, ap, sym, ◌∙◌, subst}
+use Rattle.std.proofs.lemmas.Option.{slice_get-map}
+use Rattle.std.specs.Option.{option_map}
+use Rattle.spec_base.specs.Files.{Files}
+use Rattle.spec_base.specs.declared.machine.Trap.{Trap}
+use Rattle.spec_base.specs.declared.machine.View.TheVariants.{Plain}
+use Rattle.rv_decode.specs.Instruction.{instr_of}
+use Rattle.rv_decode.specs.declared.instr.Instr.{Instr}
+use Rattle.rv_decode.specs.declared.instr.Instr.TheVariants.{Lui, Auipc, Jal, Jalr, Branch, Load, Store, OpImm, OpImmW, Op, OpW, Fence, Ecall, Ebreak, Hgate, Hleave, Hsite, Hkey, Hstop, Hrestart, Hcall, Hpark, Illegal}
+use Rattle.rv_decode.specs.declared.instr.LoadOp.{LoadOp}
+use Rattle.rv_model.specs.Memory.{Memory, stored, all_from}
+use Rattle.rv_model.specs.Registers.{Registers, reg, with_reg}
+use Rattle.rv_model.specs.Rights.{Rights, data_rights}
+use Rattle.rv_model.specs.Arithmetic.{is_taken, load_width, store_width}
+use Rattle.rv_model.specs.Effect.{Effect, Next, Stored, Trapped, Called, Gated, effect, fetched, after, jump_if, branch_if, load_if, store_if, even}
+use Rattle.rv_model.specs.Space.{Space, word_effect, effect_at}
+use Rattle.spec_base.specs.Word.{plus_int}
+use Rattle.program_model.specs.Descriptors.{Descriptors}
+use Rattle.program_model.specs.PlainRun.{State, Image as Program, Taken, Went, Traps, plan_of, next, next_state, next_unless, completed, at_word, after_effect, call_step, end_unless, end_of_step, TrapsAt}
+use Rattle.hart_step.specs.Core.{Core}
+use Rattle.hart_step.specs.Step.{outcome, stepped, store_outcome, effect_here}
+use Rattle.hart_step.specs.declared.event.Event.{Event}
+use Rattle.hart_step.specs.declared.event.Event.TheVariants as event
+use Rattle.world_io.specs.Outside.{SinkState}
+use Rattle.world_io.proofs.Sinks.{none-SinkLog}
+use Rattle.plain_runner.specs.declared.ending.Ending.TheVariants.{Trapped as EndsTrapped, NoMemory}
+use Rattle.plain_runner.specs.Turns.{Shows, GoesOn, Stops, without_put}
+
+-- ---- the word at the pc
+
+fetched-map : {A B : Type 0} (f : A → B) (code : List A) (start pc : ℕ) → fetched (map f code) start pc ≡ option_map f (fetched code start pc)
+fetched-map f code start pc = by (nat_le start pc && (pc % 4 == 0)) refl
+  where
+    by : (b : Bool) → (nat_le start pc && (pc % 4 == 0)) ≡ b → fetched (map f code) start pc ≡ option_map f (fetched code start pc)
+    by true e = rw (e, fetched) (slice_get-map f code ((pc - start) / 4))
+    by false e = rw (e, fetched) refl
+
+-- a word of the text, as the plain run and as the memory of all parts has it
+word-effect : (p : Program) (s : State) (sp : Space) (files : Files) (t : Taken) → sp.layout ≡ p.layout → s.memory ≡ sp.program → (o : Option ℕ)
+    → at_word p files t s (option_map instr_of o) ≡ after_effect p files t s (word_effect Plain sp s.registers s.pc o)
+word-effect p s sp files t l m None = refl
+word-effect p s sp files t l m (Some word) =
+    ap (λ r. after_effect p files t s (effect Plain r s.memory s.registers s.pc (instr_of word))) (ap data_rights (sym l))
+    ∙ ap (λ n. after_effect p files t s (effect Plain (data_rights sp.layout) n s.registers s.pc (instr_of word))) m
+
+next-effect : (p : Program) (s : State) (sp : Space) (files : Files) (t : Taken) → sp.layout ≡ p.layout → sp.text ≡ p.words → s.memory ≡ sp.program
+    → next p files t s ≡ after_effect p files t s (effect_at Plain sp s.registers s.pc)
+unfolding effect_at
+next-effect p s sp files t l w m =
+    ap (at_word p files t s) (fetched-map instr_of p.words p.layout.text_start s.pc)
+    ∙ (word-effect p s sp files t l m (fetched p.words p.layout.text_start s.pc)
+    ∙ (ap (λ ws. after_effect p files t s (word_effect Plain sp s.registers s.pc (fetched ws p.layout.text_start s.pc))) (sym w)
+    ∙ ap (λ layout. after_effect p files t s (word_effect Plain sp s.registers s.pc (fetched sp.text layout.text_start s.pc))) (sym l)))
+
+-- the next step is the effect of the word at the hart's pc
+pub next-is : (p : Program) (s : State) (c : Core) (sp : Space) (f : Descriptors) → Shows p c sp f s → (files : Files) (t : Taken)
+    → next p files t s ≡ after_effect p files t s (effect_here c sp)
+next-is p s c sp f shows files t =
+    rw (shows.view, ← shows.registers, ← shows.pc) (next-effect p s sp files t shows.layout shows.words shows.memory)
+
+-- ---- no gate is legal in the Plain view
+
+abbrev is_gated : Effect → Bool
+is_gated (Gated _) = true
+is_gated (Next rs pc) = false
+is_gated (Stored a width v) = false
+is_gated (Trapped cause) = false
+is_gated Called = false
+
+jump-gated : (b : Bool) (rs : Registers) (target : ℕ) → is_gated (jump_if b rs target) ≡ false
+jump-gated true rs target = refl
+jump-gated false rs target = refl
+
+branch-gated : (b : Bool) (rs : Registers) (pc target : ℕ) → is_gated (branch_if b rs pc target) ≡ false
+branch-gated true rs pc target = jump-gated (target % 4 == 0) rs target
+branch-gated false rs pc target = refl
+
+load-gated : (b d : Bool) (m : Memory) (op : LoadOp) (rs : Registers) (pc rd a : ℕ) → is_gated (load_if b d m op rs pc rd a) ≡ false
+load-gated false d m op rs pc rd a = refl
+load-gated true false m op rs pc rd a = refl
+load-gated true true m op rs pc rd a = refl
+
+store-gated : (b d : Bool) (a width v : ℕ) → is_gated (store_if b d a width v) ≡ false
+store-gated false d a width v = refl
+store-gated true false a width v = refl
+store-gated true true a width v = refl
+
+effect-gated : (r : Rights) (m : Memory) (rs : Registers) (pc : ℕ) (i : Instr) → is_gated (effect Plain r m rs pc i) ≡ false
+effect-gated r m rs pc (Lui rd imm) = refl
+effect-gated r m rs pc (Auipc rd imm) = refl
+effect-gated r m rs pc (Jal rd imm) = jump-gated (plus_int pc imm % 4 == 0) (with_reg rs rd (after pc)) (plus_int pc imm)
+effect-gated r m rs pc (Jalr rd rs1 imm) = jump-gated (even (plus_int (reg rs rs1) imm) % 4 == 0) (with_reg rs rd (after pc)) (even (plus_int (reg rs rs1) imm))
+effect-gated r m rs pc (Branch op rs1 rs2 imm) = branch-gated (is_taken op (reg rs rs1) (reg rs rs2)) rs pc (plus_int pc imm)
+effect-gated r m rs pc (Load op rd rs1 imm) = load-gated (plus_int (reg rs rs1) imm % load_width op == 0) (all_from r.load (plus_int (reg rs rs1) imm) (load_width op)) m op rs pc rd (plus_int (reg rs rs1) imm)
+effect-gated r m rs pc (Store op rs1 rs2 imm) = store-gated (plus_int (reg rs rs1) imm % store_width op == 0) (all_from r.store (plus_int (reg rs rs1) imm) (store_width op)) (plus_int (reg rs rs1) imm) (store_width op) (reg rs rs2)
+effect-gated r m rs pc (OpImm op rd rs1 imm) = refl
+effect-gated r m rs pc (OpImmW op rd rs1 imm) = refl
+effect-gated r m rs pc (Op op rd rs1 rs2) = refl
+effect-gated r m rs pc (OpW op rd rs1 rs2) = refl
+effect-gated r m rs pc (Fence word) = refl
+effect-gated r m rs pc Ecall = refl
+effect-gated r m rs pc Ebreak = refl
+effect-gated r m rs pc Illegal = refl
+effect-gated r m rs pc Hgate = refl
+effect-gated r m rs pc Hleave = refl
+effect-gated r m rs pc (Hsite rd) = refl
+effect-gated r m rs pc (Hkey rd) = refl
+effect-gated r m rs pc Hstop = refl
+effect-gated r m rs pc Hrestart = refl
+effect-gated r m rs pc (Hcall unhinted) = refl
+effect-gated r m rs pc (Hpark cause) = refl
+
+word-gated : (sp : Space) (rs : Registers) (pc : ℕ) (o : Option ℕ) → is_gated (word_effect Plain sp rs pc o) ≡ false
+word-gated sp rs pc None = refl
+word-gated sp rs pc (Some word) = effect-gated (data_rights sp.layout) sp.program rs pc (instr_of word)
+
+here-gated : (p : Program) (s : State) (c : Core) (sp : Space) (f : Descriptors) → Shows p c sp f s → is_gated (effect_here c sp) ≡ false
+unfolding effect_at
+here-gated p s c sp f shows = rw shows.view (word-gated sp c.registers c.pc (fetched sp.text sp.layout.text_start c.pc))
+
+-- ---- what a step came to, by its event
+
+-- the next state, where the instruction is completed
+pub record Moved (p : Program) (s : State) (core : Core) (space : Space) (f : Descriptors) : Type 0 where
+  pub next : State
+  pub steps : (files : Files) (t : Taken) → next_state p files t s ≡ Some next
+  pub out : next.out ≡ s.out
+  pub err : next.err ≡ s.err
+  pub shows : Shows p core space f next
+
+-- what a step that told an event came to: a trap, a call, and want of a page leave hart and memory, and no other event comes in the Plain view
+abbrev pub StepsTo : Program → State → Core → Space → Descriptors → Event → Core → Space → Type 0
+StepsTo p s c sp f event.Done core space = Moved p s core space f
+StepsTo p s c sp f (event.Trap cause) core space = ((files : Files) (t : Taken) → next p files t s ≡ Traps cause) × (core ≡ c) × (space ≡ sp)
+StepsTo p s c sp f event.Ecall core space = ((files : Files) (t : Taken) → next p files t s ≡ call_step files t (plan_of p.layout s) s) × (core ≡ c) × (space ≡ sp)
+StepsTo p s c sp f event.NoMemory core space = (core ≡ c) × (space ≡ sp)
+StepsTo p s c sp f other core space = ⊥
+
+module _ (p : Program) (s : State) (c : Core) (sp : Space) (f : Descriptors) (shows : Shows p c sp f s) (lacks : ℕ → Bool) where
+  -- a step that completes
+  goes : (n : State) → ((files : Files) (t : Taken) → next p files t s ≡ Went n) → (files : Files) (t : Taken) → next_state p files t s ≡ Some n
+  goes n went files t = ap (λ e. next_unless e p files t s) shows.exited ∙ ap completed (went files t)
+
+  stores : (b : Bool) (a width v : ℕ) → ((files : Files) (t : Taken) → next p files t s ≡ after_effect p files t s (Stored a width v))
+      → StepsTo p s c sp f (store_outcome b c sp a width v).event (store_outcome b c sp a width v).core (store_outcome b c sp a width v).space
+  stores true a width v went = (refl, refl)
+  stores false a width v went =
+      record {
+        next = record s { memory = stored s.memory a width v; pc = after s.pc };
+        steps = goes (record s { memory = stored s.memory a width v; pc = after s.pc }) went;
+        out = refl;
+        err = refl;
+        shows = record {
+          view = shows.view;
+          registers = shows.registers;
+          pc = ap after shows.pc;
+          memory = rw (shows.view, shows.memory) refl;
+          files = shows.files;
+          exited = shows.exited;
+          layout = rw shows.view shows.layout;
+          words = rw shows.view shows.words;
+        };
+      }
+
+  steps-by : (e : Effect) → is_gated e ≡ false → ((files : Files) (t : Taken) → next p files t s ≡ after_effect p files t s e)
+      → StepsTo p s c sp f (stepped lacks e c sp).event (stepped lacks e c sp).core (stepped lacks e c sp).space
+  steps-by (Next rs pc) g went =
+      record {
+        next = record s { registers = rs; pc = pc };
+        steps = goes (record s { registers = rs; pc = pc }) went;
+        out = refl;
+        err = refl;
+        shows = record {
+          view = shows.view;
+          registers = refl;
+          pc = refl;
+          memory = shows.memory;
+          files = shows.files;
+          exited = shows.exited;
+          layout = shows.layout;
+          words = shows.words;
+        };
+      }
+  steps-by (Stored a width v) g went = stores (lacks a) a width v went
+  steps-by (Trapped cause) g went = (went, refl, refl)
+  steps-by Called g went = (went, refl, refl)
+  steps-by (Gated gate) g went = absurd (let h : true ≡ false = g in cc)
+
+  -- a step of the hart, by its event
+  pub steps-to : (told : Event) (core : Core) (space : Space) → outcome told core space ≡ stepped lacks (effect_here c sp) c sp → StepsTo p s c sp f told core space
+  steps-to told core space h =
+      subst (λ o. StepsTo p s c sp f o.event o.core o.space) (sym h)
+      (steps-by (effect_here c sp) (here-gated p s c sp f shows) (next-is p s c sp f shows))
+
+-- ---- a turn, by its step
+
+pub done-GoesOn : (p : Program) (s : State) (c : Core) (sp : Space) (f : Descriptors) (core : Core) (space : Space) (out err : SinkState)
+    → StepsTo p s c sp f event.Done core space → GoesOn p s out err core space f out err
+done-GoesOn p s c sp f core space out err moved =
+    record {
+      next = moved.next;
+      outs = [];
+      errs = [];
+      completes = without_put moved.steps moved.out moved.err;
+      shows = moved.shows;
+      out_log = none-SinkLog out;
+      err_log = none-SinkLog err;
+      out_steady = refl;
+      err_steady = refl;
+    }
+
+pub trap-Stops : (p : Program) (s : State) (c : Core) (sp : Space) (f : Descriptors) (shows : Shows p c sp f s) (cause : Trap) (pc : ℕ) (core : Core) (space : Space) (out err : SinkState)
+    → StepsTo p s c sp f (event.Trap cause) core space → pc ≡ core.pc → Stops p s (EndsTrapped cause pc) out err out err
+trap-Stops p s c sp f shows cause pc core space out err stepped_to at =
+    record {
+      ends = λ files t.
+          ap (λ e. end_unless e p files t s) shows.exited
+          ∙ (ap (λ st. end_of_step st s.pc) (stepped_to.0 files t) ∙ ap (λ a. TrapsAt cause a) (shows.pc ∙ (ap (λ k. k.pc) (sym stepped_to.1) ∙ sym at)));
+      out_log = none-SinkLog out;
+      err_log = none-SinkLog err;
+      cause = (refl, refl);
+    }
+
+pub starved-Stops : (p : Program) (s : State) (out err : SinkState) → Stops p s NoMemory out err out err
+starved-Stops p s out err = record { ends = tt; out_log = none-SinkLog out; err_log = none-SinkLog err; cause = (refl, refl) }
+
+-- a call leaves hart and memory as they were
+pub call-Shows : (p : Program) (s : State) (c : Core) (sp : Space) (f : Descriptors) → Shows p c sp f s → (core : Core) (space : Space)
+    → StepsTo p s c sp f event.Ecall core space → Shows p core space f s
+call-Shows p s c sp f shows core space stepped_to =
+    subst (λ k. Shows p k space f s) (sym stepped_to.1) (subst (λ m. Shows p c m f s) (sym stepped_to.2) shows)

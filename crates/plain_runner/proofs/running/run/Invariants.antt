@@ -1,0 +1,11 @@
+use Rattle.program_model.specs.PlainRun.{Image as Program}
+use Rattle.hart_mem.specs.Held.{space_of}
+use Rattle.hart_step.specs.Core.{core_of}
+use Rattle.plain_runner.specs.Turns.{IsStart}
+use Rattle.plain_runner.proofs.RunLogs.{RunLog}
+use Rattle.plain_runner.proofs.running.run.Given as goal
+
+abbrev pub invariant-loop : goal.invariant-loop
+invariant-loop g l =
+    (p : Program) → IsStart p (core_of l.fn.hart) (space_of l.fn.mem) l.fn.files
+    → RunLog p (g.O.Sink.state l.fn.out) (g.E.Sink.state l.fn.err) l.counter (core_of l.hart) (space_of l.mem) l.files (g.O.Sink.state l.out) (g.E.Sink.state l.err)

@@ -1,0 +1,20 @@
+//! How a run ends.
+
+use spec_base::Trap;
+
+/// How a run ends.
+#[derive(Clone, Copy, Debug, PartialEq, Eq)]
+pub enum Ending {
+    /// The program exited with this code.
+    Exited(u8),
+    /// The program trapped at this pc.
+    Trapped(Trap, u64),
+    /// So many instructions were completed, as many as were allowed.
+    TurnsOver(u64),
+    /// The program made a call that isn't built yet.
+    NotBuilt,
+    /// A put of the program failed.
+    SinkFault,
+    /// An allocation was refused.
+    NoMemory,
+}

@@ -1,0 +1,3 @@
+mod WordBytes
+mod PartLemmas
+mod StartLemmas

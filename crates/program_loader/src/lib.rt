@@ -1,0 +1,8 @@
+//! Loading: an accepted image becomes a program at its first instruction.
+#![tactic(auto)]
+
+mod loading;
+mod parts;
+mod start;
+
+pub use loading::{Process, load};

@@ -1,0 +1,248 @@
+//! How a command ends, with its exit code and its text.
+
+ghost use Rattle.std.specs.Prelude.{◌≡◌, ◌++◌, ◌≤◌, ◌<◌, ◌^◌, length, drop, decimal};
+ghost use Rattle.world_io.specs.Texts.{PutsText};
+ghost use Rattle.spechint_commands.specs.Texts.{code_of, opening, subject, joint, refusal_text, trap_name, closing, detail, digit, hexadecimal, pc_of, turns_of};
+ghost use Rattle.spechint_commands.specs.Top.{Tells};
+
+use elf_image::Refusal;
+use itoa::Buffer;
+use spec_base::Trap;
+use world_io::{Sink, put_all};
+
+/// How a command ends.
+#[derive(Clone, Copy, Debug, PartialEq, Eq)]
+pub enum Status {
+    /// The program exited with this code.
+    Exited(u8),
+    /// The program trapped at this pc.
+    Trapped(Trap, u64),
+    /// So many instructions were completed, as many as were allowed.
+    TurnsOver(u64),
+    /// What was asked for isn't built yet.
+    NotBuilt,
+    /// The store has no file of the name.
+    Absent,
+    /// The file isn't an image of the profile.
+    Refused(Refusal),
+    /// The store failed.
+    StoreFault,
+    /// A sink failed.
+    SinkFault,
+    /// An allocation was refused.
+    NoMemory,
+}
+
+impl Status {
+    /// The exit code: the program's own, or one from 119 on.
+    pub fn code(&self) -> u8
+        ensures { result ≡ code_of self.now }
+    {
+        match self {
+            Status::Exited(code) => *code,
+            Status::Absent => 119,
+            Status::Refused(_) => 121,
+            Status::StoreFault => 122,
+            Status::SinkFault => 123,
+            Status::TurnsOver(_) => 124,
+            Status::NoMemory => 125,
+            Status::Trapped(_, _) => 126,
+            Status::NotBuilt => 127,
+        }
+    }
+
+    fn opening(&self) -> &'static [u8]
+        ensures { result.now ≡ opening self.now }
+    {
+        match self {
+            Status::Exited(_) | Status::SinkFault => b"",
+            Status::Absent => b"spechint: cannot find ",
+            Status::Refused(_) => b"spechint: ",
+            Status::StoreFault => b"spechint: read fault",
+            Status::NoMemory => b"spechint: out of memory",
+            Status::Trapped(_, _) => b"spechint: trap ",
+            Status::TurnsOver(_) => b"spechint: turns over after ",
+            Status::NotBuilt => b"spechint: not built yet",
+        }
+    }
+
+    fn subject<'a>(&self, name: &'a [u8]) -> &'a [u8]
+        ensures { result.now ≡ subject self.now name.now }
+    {
+        match self {
+            Status::Absent | Status::Refused(_) => name,
+            Status::Trapped(cause, _) => trap_name(*cause),
+            _ => b"",
+        }
+    }
+
+    fn joint(&self) -> &'static [u8]
+        ensures { result.now ≡ joint self.now }
+    {
+        match self {
+            Status::Refused(_) => b": refused: ",
+            Status::Trapped(_, _) => b" at 0x",
+            _ => b"",
+        }
+    }
+
+    // The pc of a trap, and else 0.
+    fn pc(&self) -> u64
+        ensures { result ≡ pc_of self.now }
+    {
+        match self {
+            Status::Trapped(_, pc) => *pc,
+            _ => 0,
+        }
+    }
+
+    // How many instructions were completed where all turns are over, and else 0.
+    fn turns(&self) -> u64
+        ensures { result ≡ turns_of self.now }
+    {
+        match self {
+            Status::TurnsOver(count) => *count,
+            _ => 0,
+        }
+    }
+
+    fn detail<'a>(&self, pc: &'a [u8], turns: &'a [u8]) -> &'a [u8]
+        requires pc { pc.now ≡ hexadecimal (pc_of self.now) }
+        requires turns { turns.now ≡ decimal (turns_of self.now) }
+        ensures { result.now ≡ detail self.now }
+    {
+        match self {
+            Status::Refused(why) => refusal_text(*why),
+            Status::Trapped(_, _) => pc,
+            Status::TurnsOver(_) => turns,
+            _ => b"",
+        }
+    }
+
+    fn closing(&self) -> &'static [u8]
+        ensures { result.now ≡ closing self.now }
+    {
+        match self {
+            Status::Exited(_) | Status::SinkFault => b"",
+            Status::TurnsOver(_) => b" instructions\n",
+            _ => b"\n",
+        }
+    }
+}
+
+fn trap_name(cause: Trap) -> &'static [u8]
+    ensures { result.now ≡ trap_name cause }
+{
+    match cause {
+        Trap::Illegal => b"Illegal",
+        Trap::FetchOut => b"FetchOut",
+        Trap::Misaligned => b"Misaligned",
+        Trap::LoadOut => b"LoadOut",
+        Trap::StoreOut => b"StoreOut",
+        Trap::Break => b"Break",
+    }
+}
+
+// The number and the name of a refusal.
+fn refusal_text(refusal: Refusal) -> &'static [u8]
+    ensures { result.now ≡ refusal_text refusal }
+{
+    match refusal {
+        Refusal::TooLong => b"E1 TooLong",
+        Refusal::Short => b"E2 Short",
+        Refusal::Magic => b"E3 Magic",
+        Refusal::Class => b"E4 Class",
+        Refusal::ByteOrder => b"E5 ByteOrder",
+        Refusal::Version => b"E6 Version",
+        Refusal::Kind => b"E7 Kind",
+        Refusal::Machine => b"E8 Machine",
+        Refusal::Flags => b"E9 Flags",
+        Refusal::HeaderTable => b"E10 HeaderTable",
+        Refusal::Dynamic => b"E11 Dynamic",
+        Refusal::Already => b"E12 Already",
+        Refusal::Segment => b"E13 Segment",
+        Refusal::NoText => b"E14 NoText",
+        Refusal::Sections => b"E15 Sections",
+        Refusal::Text => b"E16 Text",
+        Refusal::Entry => b"E17 Entry",
+    }
+}
+
+fn digit(value: u64) -> u8
+    requires { value < 16 }
+    ensures { result ≡ digit value }
+{
+    if value < 10 {
+        b'0' + value as u8
+    } else {
+        b'a' + (value - 10) as u8
+    }
+}
+
+// Writes the hexadecimal digits of a number to the end of a buffer, and says where they begin.
+fn write_hexadecimal(number: u64, buffer: &mut [u8]) -> usize
+    requires { length buffer.old ≡ 16 }
+    ensures within { result ≤ length buffer.new }
+    ensures digits { drop result buffer.new ≡ hexadecimal number }
+{
+    let mut rest = number;
+    let mut at = buffer.len() - 1;
+    while rest >= 16 && at > 0 {
+        buffer[at] = digit(rest % 16);
+        rest /= 16;
+        at -= 1;
+    }
+    buffer[at] = digit(rest % 16);
+    at
+}
+
+// Puts three texts, one after the other, up to a put that fails.
+fn put_three<E: Sink>(err: &mut E, first: &[u8], second: &[u8], third: &[u8]) -> bool
+    ensures { PutsText (E.state err.old) (first.now ++ (second.now ++ third.now)) result (E.state err.new) }
+{
+    if !put_all(err, first) {
+        return false;
+    }
+    if !put_all(err, second) {
+        return false;
+    }
+    put_all(err, third)
+}
+
+// Puts five texts, one after the other, up to a put that fails.
+fn put_five<E: Sink>(
+    err: &mut E,
+    first: &[u8],
+    second: &[u8],
+    third: &[u8],
+    fourth: &[u8],
+    fifth: &[u8],
+) -> bool
+    ensures { PutsText (E.state err.old) (first.now ++ (second.now ++ (third.now ++ (fourth.now ++ fifth.now)))) result (E.state err.new) }
+{
+    if !put_all(err, first) {
+        return false;
+    }
+    if !put_all(err, second) {
+        return false;
+    }
+    put_three(err, third, fourth, fifth)
+}
+
+/// Puts the text of a status. A put that fails ends it. The name is the word for IMAGE.
+pub fn tell<E: Sink>(status: &Status, name: &[u8], err: &mut E)
+    ensures { Tells status.now name.now (E.state err.old) (E.state err.new) }
+{
+    let mut buffer = [0u8; 16];
+    let at = write_hexadecimal(status.pc(), &mut buffer);
+    let mut decimal = Buffer::new();
+    let turns = decimal.format(status.turns());
+    let _ = put_five(
+        err,
+        status.opening(),
+        status.subject(name),
+        status.joint(),
+        status.detail(&buffer[at..], turns.as_bytes()),
+        status.closing(),
+    );
+}
