@@ -21,7 +21,7 @@ ByName o status old new =
     ((status ≡ NotBuilt) × (new.store ≡ old.store) × (new.out ≡ old.out) × Tells NotBuilt [] old.err new.err)
     (λ name. (err : SinkState) × PlainTo name status old (record { store = new.store; out = new.out; err = err }) × Tells status name err new.err)
 
-failed_read : (a b : StoreState) (name : List ℕ) → ReadsWhole a name (Err read.Failed) b → Rose a.faults b.faults
+pub failed_read : (a b : StoreState) (name : List ℕ) → ReadsWhole a name (Err read.Failed) b → Rose a.faults b.faults
 failed_read a b name r = failed-Rose a b _ (subst (λ l. StoreLog a l b) r.calls.1 r.went)
 
 store_fault_by : (o : Option (List ℕ)) (old new : Outside) → ByName o StoreFault old new → Rose old.store.faults new.store.faults

@@ -1,3 +1,4 @@
 mod Digits
 mod Outcomes
 mod Causes
+mod Defined

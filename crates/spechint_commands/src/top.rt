@@ -4,6 +4,7 @@ ghost use Rattle.std.specs.Prelude.{◌≡◌, ◌⊎◌, ℕ, map, string_bytes
 ghost use Rattle.world_io.specs.Outside.{Rose};
 ghost use Rattle.elf_image.specs.Image.{IsImage};
 ghost use Rattle.spechint_commands.specs.Words.{image_name};
+ghost use Rattle.spechint_commands.specs.Defined.{IsSteady, IsDefined};
 ghost use Rattle.spechint_commands.specs.Top.{IsOutcome, PlainTo, ImageTo, EndingStatus};
 
 use crate::status::{Status, tell};
@@ -124,6 +125,14 @@ pub fn spechint<D: Store, O: Sink, E: Sink>(
         → Rose (O.state out.old).faults (O.state out.new).faults ⊎ Rose (E.state err.old).faults (E.state err.new).faults }
     ensures absent { result ≡ Status.Absent
         → IfSome (image_name (map string_bytes words.now)) (λ name. IfSome (D.state store.old).files (λ files. files name ≡ None)) }
+
+    // Where the store tells its files and no count rises, status and bytes are those of the file and its run.
+    ensures defined { IfSome (D.state store.old).files (λ files.
+        IsSteady (record { store = D.state store.old; out = O.state out.old; err = E.state err.old })
+        (record { store = D.state store.new; out = O.state out.new; err = E.state err.new })
+        → IsDefined (map string_bytes words.now) files result
+        (record { store = D.state store.old; out = O.state out.old; err = E.state err.old })
+        (record { store = D.state store.new; out = O.state out.new; err = E.state err.new })) }
 {
     command(alloc, words, store, out, err)
 }

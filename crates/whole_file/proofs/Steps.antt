@@ -1,20 +1,17 @@
 -- How far a file has been read.
-use Rattle.std.proofs.Common.{◌≡◌, ◌⊎◌, inl, inr, ℕ, ◌+◌, ◌-◌, ◌*◌, ◌/◌, ◌≤◌, ◌<◌, Bool, true, false, List, [], ◌∷◌, ◌++◌, length, take, drop, arith, sym, ap, subst, refl, ◌∙◌, Some, None, Option, IfSome, Result, Ok, Err, add-one}
+use Rattle.std.proofs.Common.{◌≡◌, inl, inr, ℕ, ◌+◌, ◌*◌, ◌≤◌, ◌<◌, true, false, List, [], ◌∷◌, ◌++◌, length, take, arith, sym, ap, subst, refl, ◌∙◌, Some, None, Option, IfSome, Ok, Err, add-one}
 use Rattle.std.proofs.Math.ListN.{replicate}
 use Rattle.std.proofs.lemmas.List.{take_all, length-replicate}
 use Rattle.std.proofs.Math.Seq.{take-add}
 use Rattle.world_io.specs.Outside.{StoreState, Rose, KeepsFiles, Counts}
 use Rattle.spec_base.specs.Files.{Files}
-use Rattle.world_io.specs.Looks.{LookSays, look_failed}
-use Rattle.world_io.specs.Fetches.{FetchSays, fetch_failed, block_of}
+use Rattle.world_io.specs.Looks.{LookSays}
+use Rattle.world_io.specs.Fetches.{FetchSays}
 use Rattle.world_io.specs.Logs.{StoreLog}
 use Rattle.world_io.proofs.Stores.{call-StoreLog, none-StoreLog}
-use Rattle.world_io.specs.declared.store.Look.{Look}
-use Rattle.world_io.specs.declared.store.Look.TheVariants.{Found, Absent, Failed}
-use Rattle.world_io.specs.declared.store.Fetch.{Fetch}
-use Rattle.world_io.specs.declared.store.Fetch.TheVariants.{Got, Failed as FetchFailed}
-use Rattle.whole_file.specs.Reading.{ReadsWhole, SaysOf, Calls, block_count, file_limit}
-use Rattle.whole_file.specs.declared.reading.ReadFault.{ReadFault}
+use Rattle.world_io.specs.declared.store.Look.TheVariants.{Found, Absent}
+use Rattle.world_io.specs.declared.store.Fetch.TheVariants.{Got}
+use Rattle.whole_file.specs.Reading.{ReadsWhole, SaysOf, block_count, file_limit}
 use Rattle.whole_file.specs.declared.reading.ReadFault.TheVariants.{Absent as ReadAbsent, TooLong, Failed as ReadFailed, NoMemory}
 
 -- the file as it is told, and what was read of it

@@ -2,5 +2,7 @@
 #![tactic(auto)]
 
 mod reading;
+#[cfg(test)]
+mod tests;
 
 pub use reading::{FILE_LIMIT, ReadFault, read_whole};

@@ -1,4 +1,5 @@
 use Rattle.spechint_commands.proofs.Causes.{store_fault-Rose, sink_fault-Rose, absent-told}
+use Rattle.spechint_commands.proofs.Defined.{outcome-IsDefined}
 use Rattle.spechint_commands.proofs.top.spechint.Goals as goal
 
 pub returns-clause-store_fault : goal.returns-clause-store_fault
@@ -9,3 +10,6 @@ returns-clause-sink_fault g c = sink_fault-Rose _ _ _ _ c.command.ensures.outcom
 
 pub returns-clause-absent : goal.returns-clause-absent
 returns-clause-absent g c = absent-told _ _ _ _ c.command.ensures.outcome
+
+pub returns-clause-defined : goal.returns-clause-defined
+returns-clause-defined g c = outcome-IsDefined _ _ _ _ c.command.ensures.outcome

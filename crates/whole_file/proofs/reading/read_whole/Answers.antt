@@ -1,5 +1,5 @@
-use Rattle.std.proofs.Common.{arith, refl, subst, sym, rules, take, ◌+◌, ◌≡◌, ◌++◌}
-use Rattle.whole_file.proofs.Steps.{ReadLog, failed_look-ReadsWhole, starved-ReadsWhole, found-ReadLog, got-ReadLog, failed_fetch-ReadsWhole}
+use Rattle.std.proofs.Common.{refl, rules, take, ◌≡◌, ◌++◌}
+use Rattle.whole_file.proofs.Steps.{failed_look-ReadsWhole, starved-ReadsWhole, found-ReadLog, got-ReadLog, failed_fetch-ReadsWhole}
 use Rattle.whole_file.proofs.reading.read_whole.Goals as goal
 
 pub returns-in-Failed : goal.returns-in-Failed

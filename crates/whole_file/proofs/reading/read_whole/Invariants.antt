@@ -1,4 +1,3 @@
-use Rattle.std.proofs.Common.{◌≡◌, ◌≤◌}
 use Rattle.whole_file.proofs.Steps.{ReadLog}
 use Rattle.whole_file.proofs.reading.read_whole.Given as goal
 
