@@ -1,0 +1,5 @@
+mod Programs
+mod Divisions
+mod MisalignedJumps
+mod FarJumps
+mod WordCounts
