@@ -4,5 +4,7 @@
 mod loading;
 mod parts;
 mod start;
+#[cfg(test)]
+mod tests;
 
 pub use loading::{Process, load};
