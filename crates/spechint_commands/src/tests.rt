@@ -34,7 +34,9 @@ const PUTS_ITS_NAME: [u32; 8] = [
 // Exits with 7.
 const EXITS: [u32; 3] = [0x0070_0513, 0x05D0_0893, 0x0000_0073];
 // One ADDI, and then nothing.
-const ENDS: [u32; 1] = [0x0000_0013];
+const ENDS: [u32; 1] = [0x0070_0513];
+// No instruction.
+const ILLEGAL: [u32; 1] = [0];
 
 fn image(alloc: Global, words: &[u32]) -> Result<Vec<u8>, Fail> {
     let mut bytes = FRONT.to_vec(alloc)?;
@@ -97,6 +99,12 @@ fn a_status_has_its_text(rt: HostRuntime) -> Result<(), Fail> {
     assert_eq!(rt;
         told.err.as_slice(),
         b"spechint: trap FetchOut at 0x1007c\n".as_slice()
+    );
+    let told = plain(alloc, &image(alloc, &ILLEGAL)?, &[], &[])?;
+    assert_eq!(rt; told.status, Status::Trapped(Trap::Illegal, 0x1_0078));
+    assert_eq!(rt;
+        told.err.as_slice(),
+        b"spechint: trap Illegal at 0x10078\n".as_slice()
     );
     let told = plain(alloc, &FRONT[..40], &[], &[])?;
     assert_eq!(rt; told.status, Status::Refused(Refusal::Short));
