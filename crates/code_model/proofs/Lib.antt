@@ -1,2 +1,3 @@
 mod Lengths
 mod WorkedBlocks
+pub mod Alike

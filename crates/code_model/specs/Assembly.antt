@@ -1,6 +1,6 @@
 -- Short names for the instructions of the emitted code, as assemblers write them (RISC-V Unprivileged ISA 20191213, chapter 25).
 use Rattle.std.specs.Prelude.{ℕ, ◌+◌, ◌-◌, ◌*◌, ◌/◌, ◌%◌, ◌^◌, true, false, ℤ, pos, negsuc, nat_le}
-use Rattle.rv_decode.specs.Fields.{signed}
+use Rattle.rv_decode.specs.Fields.{sign_extended}
 use Rattle.rv_decode.specs.declared.instr.Instr.{Instr}
 use Rattle.rv_decode.specs.declared.instr.Instr.TheVariants.{Lui, Jal, Jalr, Branch, Load, Store, OpImm, Op}
 use Rattle.rv_decode.specs.declared.instr.BranchOp.{BranchOp}
@@ -20,13 +20,13 @@ abbrev pub hi : ℕ → ℕ
 hi v = (v + 0x800) / 4096 % 2 ^ 20
 
 abbrev pub lo : ℕ → ℤ
-lo v = signed 12 (v % 4096)
+lo v = sign_extended 12 (v % 4096)
 
 -- ---- instructions
 
 -- lui with a field of 20 bits, whose sign is extended
 abbrev pub lui : ℕ → ℕ → Instr
-lui rd field = Lui rd (signed 32 (4096 * field))
+lui rd field = Lui rd (sign_extended 32 (4096 * field))
 
 abbrev pub addi : ℕ → ℕ → ℤ → Instr
 addi rd rs1 imm = OpImm Addi rd rs1 imm

@@ -1,6 +1,6 @@
 -- Where each part of a memory stands in its pages: the program range at its own addresses, after it the two private pages, the link, the region table, the region list and the copies (this project's own).
 use Rattle.std.specs.Prelude.{ℕ, ◌+◌, ◌-◌, ◌*◌, ◌/◌, Bool, true, false, nat_lt}
-use Rattle.spec_base.specs.Layout.{range_end}
+use Rattle.spec_base.specs.Layout.{range_end, link_start, table_start, list_start, copies_start, private_start, private_bytes}
 use Rattle.spec_base.specs.declared.layout.Layout.{Layout}
 use Rattle.spec_base.specs.declared.machine.View.{View}
 use Rattle.spec_base.specs.declared.machine.View.TheVariants.{Plain, Program, Stub, Shadow}
@@ -8,10 +8,10 @@ use Rattle.rv_model.specs.Rights.{in_private, in_range, list_bytes}
 
 -- the stub's private page, and that of the shadow
 abbrev pub stub_place : Layout → ℕ → ℕ
-stub_place l a = range_end l.version + (a - 0xFFFF_FFFF_FFFF_F800)
+stub_place l a = range_end l.version + (a - private_start)
 
 abbrev pub shadow_place : Layout → ℕ → ℕ
-shadow_place l a = range_end l.version + 2048 + (a - 0xFFFF_FFFF_FFFF_F800)
+shadow_place l a = range_end l.version + private_bytes + (a - private_start)
 
 -- where the list begins, and where the copies do
 abbrev pub list_place : Layout → ℕ
@@ -23,12 +23,12 @@ copies_place l = list_place l + list_bytes l
 -- the parts that the stub and the shadow share
 unfoldable pub shared_place : Layout → ℕ → ℕ
 shared_place l a =
-    elim (nat_lt a 0x4300_0000) [
-      | true ↦ range_end l.version + 0x1000 + (a - 0x4200_0000)
+    elim (nat_lt a table_start) [
+      | true ↦ range_end l.version + 0x1000 + (a - link_start)
       | false ↦
-          elim (nat_lt a 0x4400_0000) [
-            | true ↦ range_end l.version + 0x3000 + (a - 0x4300_0000)
-            | false ↦ elim (nat_lt a 0x4500_0000) [ true ↦ list_place l + (a - 0x4400_0000) | false ↦ copies_place l + (a - 0x4500_0000) ]
+          elim (nat_lt a list_start) [
+            | true ↦ range_end l.version + 0x3000 + (a - table_start)
+            | false ↦ elim (nat_lt a copies_start) [ true ↦ list_place l + (a - list_start) | false ↦ copies_place l + (a - copies_start) ]
           ]
     ]
 

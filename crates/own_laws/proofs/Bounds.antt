@@ -22,7 +22,7 @@ use Rattle.program_model.specs.PlainRun.{State, Image, Taken, Step, Went, Traps,
 use Rattle.run_model.specs.OwnLaws.{AllBytes}
 use Rattle.spec_base.specs.declared.layout.Layout.{Layout}
 use Rattle.own_laws.proofs.Offsets.{Lawful, PlanFits, plan_by-fits, opened-lawful, after_read-lawful}
-use Rattle.own_laws.proofs.Results.{Bytes, load-small, imm_result-small, imm_w_result-small, reg_result-small, reg_w_result-small, wrap-small, word_of_int-small}
+use Rattle.rv_model.proofs.Results.{Bytes, load-small, imm_result-small, imm_w_result-small, reg_result-small, reg_w_result-small, wrap-small, word_of_int-small}
 
 -- each register is below 2^64
 abbrev pub Words : Registers → Type 0

@@ -12,7 +12,7 @@ use Rattle.rv_model.specs.Registers.{Registers, reg}
 use Rattle.rv_model.specs.Arithmetic.{signed}
 use Rattle.program_model.specs.Descriptors.{Descriptor, Free, Out, Err, File, Descriptors, slot, with_slot, lowest_free, EINVAL}
 use Rattle.program_model.specs.Calls.{CallPlan, Set, Look, Read, Write, Exit, CallKind, Open, OpenAt, Close, Seek, ReadFile, WriteFile, ExitProgram, Break, Unknown, kind_of, Named, Refused, Whole, name_at, look_if_free, open_named, open_plan, close_plan, seek_base, moved_to, seek_from, seek_plan, read_count, read_if, read_plan, put_if, write_plan, break_plan, plan_by}
-use Rattle.program_model.specs.Cache.{Cache, Gathered, gather, blocks_up, blocks_of, blocks_from, holds, used, awaited}
+use Rattle.program_model.specs.Cache.{Cache, Gathered, gather, blocks_up, blocks_of, blocks_touched, holds, used, awaited}
 use Rattle.program_model.specs.PlainRun.{State}
 use Rattle.run_model.specs.Run.{World, Run}
 use Rattle.own_laws.proofs.OwnSide.{plan}
@@ -115,7 +115,7 @@ length-blocks_up name first (suc n) = ap suc (length-blocks_up name (first + 1) 
 pub few_blocks : (spot : ReadSpot) → spot.count ≤ 65536 → length (blocks_of spot) ≤ 17
 few_blocks spot h = by_count spot.count h
   where
-    by_count : (n : ℕ) → n ≤ 65536 → length (blocks_from spot n) ≤ 17
+    by_count : (n : ℕ) → n ≤ 65536 → length (blocks_touched spot n) ≤ 17
     by_count zero h = omega arith
     by_count (suc n) h = omega (arith, length-blocks_up spot.name (spot.offset / 4096) ((spot.offset + n) / 4096 - spot.offset / 4096 + 1))
 

@@ -18,10 +18,10 @@ use Rattle.program_model.specs.Cache.{Cache, Gathered, gather, blocks_of, in_fli
 use Rattle.program_model.specs.PlainRun.{State, text_of}
 use Rattle.code_model.specs.Patch.{patched_instr}
 use Rattle.run_model.specs.Run.{World, Run, Answer, Usual, Took, Failed, Lost}
-use Rattle.run_model.specs.OwnMoves.{entered, program_after, program_at, program_step, call_step, read_on, look_done, write_step, write_done, own_step, own_unless}
+use Rattle.run_model.specs.OwnMoves.{entered, program_after, program_at, program_step, own_call_step, read_on, look_done, write_step, write_done, own_step, own_unless}
 use Rattle.run_model.specs.Moves.{step, step_unless, begun, fetch_step, fetch_of, fetch_ends, fetch_failed, landed_with, cached_too}
 use Rattle.run_model.specs.OwnLaws.{Accepted}
-use Rattle.own_laws.proofs.Alike.{gated, effect-patched, fetched-map}
+use Rattle.code_model.proofs.Alike.{gated, effect-patched, fetched-map}
 use Rattle.own_laws.proofs.Demand.{rank, rank-stub, rank-program, call_rank, call_rank-most, Demand, calm, GatherOf, gather-of, few_blocks, Small, plan-small}
 use Rattle.own_laws.proofs.InvisibleShadow.{shadow_move-keeps}
 use Rattle.own_laws.proofs.OwnSide.{OwnSide, call-place, in_program, in_stub, at_call, waits, called, over, plan, program_side, called_side, placed}
@@ -109,7 +109,7 @@ module _ (w : World) (x : Answer) where
     write-gets Lost to_out a n d = put-gets to_out a n _ d
 
     -- each call gets on
-    call-gets : (c : CallPlan) → Small c → Demand the_call → Gets the_call (call_step w x the_call c)
+    call-gets : (c : CallPlan) → Small c → Demand the_call → Gets the_call (own_call_step w x the_call c)
     call-gets (Set files answer) small d = done refl (calm _ refl (sym d.same))
     call-gets (Look name) small d = look-gets x name d
     call-gets (Read e spot a) small d =

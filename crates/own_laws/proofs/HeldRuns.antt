@@ -17,7 +17,7 @@ use Rattle.program_model.specs.Calls.{CallPlan, Set, Look, Read, Write, Exit}
 use Rattle.program_model.specs.Cache.{Gathered, gather, blocks_of, in_flight}
 use Rattle.program_model.specs.PlainRun.{State}
 use Rattle.run_model.specs.Run.{World, Run, RunEnd, Answer, Usual, Took, Failed, Lost, opened_run, rewritten_text}
-use Rattle.run_model.specs.OwnMoves.{program_after, program_at, call_step, read_on, look_done, write_step, write_done, taken_in, own_step}
+use Rattle.run_model.specs.OwnMoves.{program_after, program_at, own_call_step, read_on, look_done, write_step, write_done, taken_in, own_step}
 use Rattle.run_model.specs.Moves.{Moves, step, step_unless, begun, silent, run, run_from, fetch_of, fetch_ends, fetch_failed, landed_with}
 use Rattle.run_model.specs.OwnLaws.{Accepted, IsShadowMove}
 use Rattle.own_laws.specs.StubLaws.{IsEmpty, IsBoxed, LeavesLink, left, takes_head, is_stopped, StubStopsFirst, RestartsFromBox, RestartHasBox}
@@ -133,13 +133,13 @@ write_step-leaves w Usual r to_out a n = write_done-leaves w (taken_in Usual n) 
 write_step-leaves w (Took k) r to_out a n = write_done-leaves w (taken_in (Took k) n) to_out a n r
 write_step-leaves w Lost r to_out a n = write_done-leaves w (taken_in Lost n) to_out a n r
 
-call_step-leaves : (w : World) (x : Answer) (r : Run) (c : CallPlan) → CallLeaves r (call_step w x r c)
-call_step-leaves w x r (Set f answer) = record { link = refl; pc = inr refl }
-call_step-leaves w x r (Look name) = look_done-leaves w x r name
-call_step-leaves w x r (Read d spot a) =
+own_call_step-leaves : (w : World) (x : Answer) (r : Run) (c : CallPlan) → CallLeaves r (own_call_step w x r c)
+own_call_step-leaves w x r (Set f answer) = record { link = refl; pc = inr refl }
+own_call_step-leaves w x r (Look name) = look_done-leaves w x r name
+own_call_step-leaves w x r (Read d spot a) =
     let g : Gathered = gather r.cache r.gathered (drop r.gathered (blocks_of spot)) in read_on-leaves g.waits w d spot a g r
-call_step-leaves w x r (Write to_out a n) = write_step-leaves w x r to_out a n
-call_step-leaves w x r (Exit code) = record { link = refl; pc = inl refl }
+own_call_step-leaves w x r (Write to_out a n) = write_step-leaves w x r to_out a n
+own_call_step-leaves w x r (Exit code) = record { link = refl; pc = inl refl }
 
 -- at the call
 call-held : (r next : Run) → r.own.pc ≡ 0x417F_FFFC + 4 * 26 → CallLeaves r next → OwnHeld r next
@@ -179,7 +179,7 @@ module _ (w : World) (accepted : Accepted w) where
       placed w (λ r. HeldAt (place_of r) → OwnHeld r (own_step w x r)) r _ is
       (λ held. word-held _ _ q t k refl refl (held.by k refl refl) (word_goes w x q t (reached-fits w accepted t q g.reached) (call-place w accepted t q g) r k a b c page row)) held
   own-held x r z (at_call t q page g is) held =
-      placed w (λ r. OwnHeld r (own_step w x r)) r _ is (call-held _ _ refl (call_step-leaves w x (with_side r (stub_side q t 26 q.registers page)) (plan w q)))
+      placed w (λ r. OwnHeld r (own_step w x r)) r _ is (call-held _ _ refl (own_call_step-leaves w x (with_side r (stub_side q t 26 q.registers page)) (plan w q)))
   own-held x r z (waits t q page g is) held =
       placed w (λ r. HeldAt (place_of r) → OwnHeld r (own_step w x r)) r _ is (λ held. link_left _ _ refl held) held
   own-held x r z (called t q s k page h f y n is) held =

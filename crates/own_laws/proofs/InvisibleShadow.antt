@@ -17,7 +17,7 @@ use Rattle.program_model.specs.Calls.{CallPlan, Set, Look, Read, Write, Exit, op
 use Rattle.program_model.specs.PlainRun.{size_in}
 use Rattle.program_model.specs.Cache.{Cache, hinted, all_hinted, hint_if, is_idle_hint, blocks_of}
 use Rattle.run_model.specs.Run.{World, Run, RunEnd, Answer, Usual, Took, Failed, Lost, rewritten_words}
-use Rattle.run_model.specs.ShadowMoves.{shadow_in, shadow_at_word, shadow_after, shadow_gate, shadow_stored, assumed, look_assumed, assumed_with, hint_given, fill_if, is_filled, parked, arrived_if, word_counted, fetch_shadow, is_running, is_arrival, shadow_plan, is_call_word}
+use Rattle.run_model.specs.ShadowMoves.{shadow_in, shadow_at_word, shadow_after, shadow_gate, shadow_stores, assumed, look_assumed, assumed_with, hint_given, fill_if, is_filled, parked, arrived_if, word_counted, fetch_shadow, is_running, is_arrival, shadow_plan, is_call_word}
 use Rattle.run_model.specs.Moves.{step, step_unless, moved, begun, shadow_while}
 use Rattle.run_model.specs.OwnLaws.{IsShadowMove, has_failed, ShadowIsInvisible, is_look, asks_for_look}
 use Rattle.std.specs.Prelude.{⊤}
@@ -82,7 +82,7 @@ gate-keeps w x r (Hpark cause) = refl
 gate-keeps w x r _ = refl
 
 -- so does a store
-stored-keeps : (b : Bool) (r : Run) (a width v : ℕ) → Keeps r (shadow_stored b r a width v)
+stored-keeps : (b : Bool) (r : Run) (a width v : ℕ) → Keeps r (shadow_stores b r a width v)
 stored-keeps true r a width v = refl
 stored-keeps false r a width v = refl
 

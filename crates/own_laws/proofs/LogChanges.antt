@@ -6,7 +6,7 @@ use Rattle.rv_model.specs.Memory.{Memory, stored}
 use Rattle.rv_model.specs.Registers.{Registers, reg}
 use Rattle.code_model.specs.Log.{log_head, log_tail, log_place, logged, boxed_site, boxed}
 use Rattle.own_laws.specs.StubLaws.{Appends, IsOldest, IsEmpty, without_oldest}
-use Rattle.own_laws.proofs.Patches.{loaded-below_patch, loaded-above_patch, loaded-stored}
+use Rattle.rv_model.proofs.Loads.{loaded-below_patch, loaded-above_patch, loaded-stored}
 
 -- ---- appending
 

@@ -13,7 +13,7 @@ use Rattle.code_model.specs.Log.{log_head, log_tail, log_place, logged}
 use Rattle.run_model.specs.Run.{World, Run, Answer}
 use Rattle.own_laws.specs.StubLaws.{Appends, IsOldest, IsEmpty, Outcome, keyless, takes, empties}
 use Rattle.own_laws.proofs.LogChanges.{Appends-same, takes-oldest, head-emptied, tail-emptied, empty-box_stored, BoxedTo, site_boxed, register_boxed}
-use Rattle.own_laws.proofs.Patches.{loaded-stored}
+use Rattle.rv_model.proofs.Loads.{loaded-stored}
 use Rattle.own_laws.proofs.Side.{side_of, with_side, Tally}
 use Rattle.own_laws.proofs.StubRows.{Saved31, SavedTwo, SavedAll, save31, save30, save29, save_key, in_log}
 use Rattle.own_laws.proofs.StubWords.{three, three-own, three-low, stub_side, at, restarted_tally, branched, after_word, linked, stopped, boxed_in, InLog, word_1, word_2, word_3, word_4, word_5, word_6, word_7, word_8, word_9, word_10, word_11, word_12, word_13, word_14, word_15, word_16, word_17, word_18, word_19, word_20, word_21, word_22, word_23, word_24, word_25, word_28, word_29, word_30, word_31, word_32, word_33, word_34, word_35, word_36, word_37-66, word_67, word_68, word_69, word_70, word_71}

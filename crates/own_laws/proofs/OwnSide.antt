@@ -21,10 +21,10 @@ use Rattle.program_model.specs.Cache.{Gathered, gather, blocks_of, in_flight}
 use Rattle.program_model.specs.PlainRun.{State, Taken, Went, next, state_after, at_word, after_effect, performed, taken_by, text_of, plan_of, all_taken, end_of, Traps as step_traps}
 use Rattle.code_model.specs.Patch.{patched_instr}
 use Rattle.run_model.specs.Run.{World, Run, RunEnd, Exits, Traps, StoreFailed, SinkFailed, Answer, Usual, Took, Failed, Lost}
-use Rattle.run_model.specs.OwnMoves.{program_after, program_at, program_step, call_step, read_on, look_done, write_step, write_done, taken_in, own_step}
+use Rattle.run_model.specs.OwnMoves.{program_after, program_at, program_step, own_call_step, read_on, look_done, write_step, write_done, taken_in, own_step}
 use Rattle.run_model.specs.Moves.{Moves, step, step_unless, begun, run_from, fetch_of, fetch_ends, fetch_failed, landed_with}
 use Rattle.run_model.specs.OwnLaws.{SameEnd, Accepted}
-use Rattle.own_laws.proofs.Alike.{gated, effect-patched, effect-no_gate, fetched-map, NoGate}
+use Rattle.code_model.proofs.Alike.{gated, effect-patched, effect-no_gate, fetched-map, NoGate}
 use Rattle.own_laws.proofs.InvisibleShadow.{shadow_move-keeps}
 use Rattle.own_laws.proofs.Reached.{Reached, Agrees, Fixes-last, length-bytes_at, reached-more, reached-with, reached-fits, completed_tally, end_of-step, whole_put, none_some}
 use Rattle.own_laws.proofs.Side.{Side, side_of, with_side, Tally, Kept}
@@ -249,7 +249,7 @@ module _ (w : World) where
     write-goes Lost to_out a n p = put-goes to_out a n (taken_in Lost n) [] p
 
     -- an exit ends the run as the plain program does
-    exit-goes : (code : ℕ) → plan w q ≡ Exit code → OwnSide w (side_of (call_step w Usual the_call (Exit code)))
+    exit-goes : (code : ℕ) → plan w q ≡ Exit code → OwnSide w (side_of (own_call_step w Usual the_call (Exit code)))
     exit-goes code p =
         over (performed w.files 0 (Exit code) q) (Exits code)
         (reached-more w t t.whole 0 q _ g.reached g.going (record { plain = λ taken a. (a, exits taken); since = λ o e h. (h, exits all_taken) }))
@@ -259,7 +259,7 @@ module _ (w : World) where
         exits taken = g.calls taken ∙ ap (λ c. Went (performed w.files (taken_by taken c q) c q)) p
 
     -- each call leads to a stage
-    call-goes : (x : Answer) (c : CallPlan) → plan w q ≡ c → OwnSide w (side_of (call_step w x the_call c))
+    call-goes : (x : Answer) (c : CallPlan) → plan w q ≡ c → OwnSide w (side_of (own_call_step w x the_call c))
     call-goes x (Set files answer) p = done t.whole 0 (Set files answer) _ p refl g.going refl (λ taken h. (h, refl)) (λ o e h. (h, refl))
     call-goes x (Look name) p = look-goes x name p
     call-goes x (Read d spot a) p =

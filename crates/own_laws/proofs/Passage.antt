@@ -21,12 +21,12 @@ use Rattle.program_model.specs.PlainRun.{State, text_of, performed}
 use Rattle.code_model.specs.Log.{log_head, log_tail}
 use Rattle.code_model.specs.Patch.{patched_instr}
 use Rattle.run_model.specs.Run.{World, Run, RunEnd, Answer, Usual, Took, Failed, Lost}
-use Rattle.run_model.specs.OwnMoves.{program_after, program_at, program_step, call_step, read_on, look_done, write_step, write_done, taken_in, own_step}
+use Rattle.run_model.specs.OwnMoves.{program_after, program_at, program_step, own_call_step, read_on, look_done, write_step, write_done, taken_in, own_step}
 use Rattle.run_model.specs.ShadowMoves.{shadow_in, shadow_step}
 use Rattle.run_model.specs.Moves.{Moves, step, step_unless, begun, run, run_from, fetch_of, fetch_ends, fetch_failed, landed_with, shadow_while}
 use Rattle.run_model.specs.OwnLaws.{Accepted, IsShadowMove}
 use Rattle.own_laws.specs.StubLaws.{IsLeaving, Appends, Outcome, keyless, takes, empties, without_oldest, Passing, restarts_after, IsPassage, StubKeepsLog}
-use Rattle.own_laws.proofs.Alike.{gated, effect-patched, fetched-map}
+use Rattle.code_model.proofs.Alike.{gated, effect-patched, fetched-map}
 use Rattle.own_laws.proofs.InvisibleShadow.{shadow_move-keeps}
 use Rattle.own_laws.proofs.LogChanges.{Appends-again, Appends-same}
 use Rattle.own_laws.proofs.LogRows.{Phase, fresh, keyed, headed, judging, found, matching, oldest, settled, missed, halted, headless, emptied, boxing, is_asked, Fact, LogRow, r1, r71, Onward, to_row, to_restarted, to_call, log_word_goes}
@@ -217,7 +217,7 @@ module _ (w : World) (q : State) (fits : (i : ℕ) → q.registers i < 2 ^ 64) (
     write-passes Lost to_out a n = put-passes to_out a n (taken_in Lost n)
 
     -- each call waits, ends the run or leads behind the call
-    call-passes : (x : Answer) (c : CallPlan) → Passes (call_step w x the_call c)
+    call-passes : (x : Answer) (c : CallPlan) → Passes (own_call_step w x the_call c)
     call-passes x (Set files answer) = completed t.whole 0 (Set files answer) _ refl refl
     call-passes x (Look name) = look-passes x name
     call-passes x (Read d spot a) = let had : Gathered = gather base.cache t.gathered (drop t.gathered (blocks_of spot)) in read-passes had.waits d spot a had

@@ -18,7 +18,7 @@ use Rattle.program_model.specs.PlainRun.{State, plan_of}
 use Rattle.code_model.specs.Assembly.{sd}
 use Rattle.code_model.specs.Stub.{stub, box_stores}
 use Rattle.run_model.specs.Run.{World, Run, Answer}
-use Rattle.run_model.specs.OwnMoves.{stub_step, stub_at, stub_after, stub_stored, restarted}
+use Rattle.run_model.specs.OwnMoves.{stub_step, stub_at, stub_after, stub_stores, restarted}
 use Rattle.own_laws.proofs.Side.{Side, with_side, Tally}
 
 -- ---- the own hart at a word of the stub
@@ -403,7 +403,7 @@ module _ (w : World) (x : Answer) (q : State) (t : Tally) where
       ≡ record (here r k a b c page) { shared = stored r.shared place 8 v; own = record q { registers = three q.registers a b c; pc = wrap (0x417F_FFFC + 4 * k + 4) } }
   link_store r a b c k place v page h l m =
       ap₂ (λ (e f : Bool). stub_after w x (here r k a b c page) (store_if e f place 8 v)) (eq-eqb (place % 8) 0 h) (link_bytes place 8 l m)
-      ∙ ap (λ (p : Bool). stub_stored p (here r k a b c page) place 8 v) (not_private place (omega arith))
+      ∙ ap (λ (p : Bool). stub_stores p (here r k a b c page) place 8 v) (not_private place (omega arith))
 
   -- register j + 1 has gone into the box
   abbrev pub boxed_in : Run → ℕ → ℕ → ℕ → Run

@@ -103,13 +103,13 @@ blocks_up name first (suc n) = record { name = name; block = first } ∷ blocks_
 abbrev pub blocks_between : Name → ℕ → ℕ → List BlockSpot
 blocks_between name first last = blocks_up name first (last - first + 1)
 
-abbrev pub blocks_from : ReadSpot → ℕ → List BlockSpot
-blocks_from spot zero = []
-blocks_from spot (suc n) = blocks_between spot.name (spot.offset / 4096) ((spot.offset + n) / 4096)
+abbrev pub blocks_touched : ReadSpot → ℕ → List BlockSpot
+blocks_touched spot zero = []
+blocks_touched spot (suc n) = blocks_between spot.name (spot.offset / 4096) ((spot.offset + n) / 4096)
 
 -- the blocks that hold a byte of the read, ascending
 abbrev pub blocks_of : ReadSpot → List BlockSpot
-blocks_of spot = blocks_from spot spot.count
+blocks_of spot = blocks_touched spot spot.count
 
 -- ---- gathering a read's blocks
 
@@ -124,6 +124,6 @@ unfoldable pub gather : Cache → ℕ → List BlockSpot → Gathered
 gather c had [] = record { cache = c; had = had; waits = false }
 gather c had (spot ∷ spots) =
     elim (holds c.cached spot) [
-      | true ↦ gather (used c spot) (had + 1) spots
-      | false ↦ record { cache = awaited c spot; had = had; waits = true }
+      | true ↦ gather (needed c spot) (had + 1) spots
+      | false ↦ record { cache = needed c spot; had = had; waits = true }
     ]

@@ -124,12 +124,12 @@ abbrev pub write_step : World → Answer → Run → Bool → ℕ → ℕ → Ru
 write_step w Failed r to_out a n = ended r SinkFailed []
 write_step w x r to_out a n = write_done w (taken_in x n) to_out a n r
 
-abbrev pub call_step : World → Answer → Run → CallPlan → Run
-call_step w x r (Set f answer) = call_done w 0 (Set f answer) (call_note r.own answer ∷ []) r
-call_step w x r (Look name) = look_done w x r name
-call_step w x r (Read d spot a) = read_step w d spot a (gather r.cache r.gathered (drop r.gathered (blocks_of spot))) r
-call_step w x r (Write to_out a n) = write_step w x r to_out a n
-call_step w x r (Exit code) = ended (call_done w 0 (Exit code) [] r) (Exits code) (note.Exit code ∷ [])
+abbrev pub own_call_step : World → Answer → Run → CallPlan → Run
+own_call_step w x r (Set f answer) = call_done w 0 (Set f answer) (call_note r.own answer ∷ []) r
+own_call_step w x r (Look name) = look_done w x r name
+own_call_step w x r (Read d spot a) = read_step w d spot a (gather r.cache r.gathered (drop r.gathered (blocks_of spot))) r
+own_call_step w x r (Write to_out a n) = write_step w x r to_out a n
+own_call_step w x r (Exit code) = ended (call_done w 0 (Exit code) [] r) (Exits code) (note.Exit code ∷ [])
 
 -- ---- the other gate instructions of the stub
 
@@ -163,18 +163,18 @@ gate_step w x r (Hsite rd) = own_wrote r rd r.site
 gate_step w x r (Hkey rd) = own_wrote r rd (key_of (plan_of w.image.layout r.own))
 gate_step w x r Hstop = record r { shadow = record r.shadow { state = Stopped }; own = record r.own { pc = after r.own.pc } }
 gate_step w x r Hrestart = restarted w r
-gate_step w x r _ = call_step w x r (plan_of w.image.layout r.own)
+gate_step w x r _ = own_call_step w x r (plan_of w.image.layout r.own)
 
 -- ---- a word of the stub
 
 -- a store goes to the stub's page or to the link
-abbrev pub stub_stored : Bool → Run → ℕ → ℕ → ℕ → Run
-stub_stored true r a width v = record r { own_page = stored r.own_page a width v; own = record r.own { pc = after r.own.pc } }
-stub_stored false r a width v = record r { shared = stored r.shared a width v; own = record r.own { pc = after r.own.pc } }
+abbrev pub stub_stores : Bool → Run → ℕ → ℕ → ℕ → Run
+stub_stores true r a width v = record r { own_page = stored r.own_page a width v; own = record r.own { pc = after r.own.pc } }
+stub_stores false r a width v = record r { shared = stored r.shared a width v; own = record r.own { pc = after r.own.pc } }
 
 abbrev pub stub_after : World → Answer → Run → Effect → Run
 stub_after w x r (Next rs pc) = record r { own = record r.own { registers = rs; pc = pc } }
-stub_after w x r (Stored a width v) = stub_stored (in_private a) r a width v
+stub_after w x r (Stored a width v) = stub_stores (in_private a) r a width v
 stub_after w x r (Trapped cause) = ended r (Traps cause r.own.pc) (note.Trap cause r.own.pc ∷ [])
 stub_after w x r (Gated i) = gate_step w x r i
 stub_after w x r Called = r

@@ -156,14 +156,14 @@ shadow_gate w x r _ = r
 -- ---- one word
 
 -- a store goes to the shadow's page or to what it shares with the stub
-abbrev pub shadow_stored : Bool → Run → ℕ → ℕ → ℕ → Run
-shadow_stored true r a width v = record r { shadow_page = stored r.shadow_page a width v; shadow = record r.shadow { pc = after r.shadow.pc } }
-shadow_stored false r a width v = record r { shared = stored r.shared a width v; shadow = record r.shadow { pc = after r.shadow.pc } }
+abbrev pub shadow_stores : Bool → Run → ℕ → ℕ → ℕ → Run
+shadow_stores true r a width v = record r { shadow_page = stored r.shadow_page a width v; shadow = record r.shadow { pc = after r.shadow.pc } }
+shadow_stores false r a width v = record r { shared = stored r.shared a width v; shadow = record r.shadow { pc = after r.shadow.pc } }
 
 -- a word that would trap parks the shadow
 abbrev pub shadow_after : World → Answer → Run → Effect → Run
 shadow_after w x r (Next rs pc) = shadow_at r rs pc
-shadow_after w x r (Stored a width v) = shadow_stored (in_private a) r a width v
+shadow_after w x r (Stored a width v) = shadow_stores (in_private a) r a width v
 shadow_after w x r (Trapped cause) = parked r park.Fault
 shadow_after w x r (Gated i) = shadow_gate w x r i
 shadow_after w x r Called = r

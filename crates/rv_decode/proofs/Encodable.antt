@@ -2,7 +2,7 @@
 use Rattle.std.proofs.Common.{◌≡◌, ◌≢◌, ℕ, ◌+◌, ◌*◌, ◌%◌, ◌^◌, ◌<◌, refl, sym, subst, ◌∙◌, ⊎_elim, arith}
 use Rattle.std.proofs.lemmas.Int.{ints}
 use Rattle.std.proofs.lemmas.Bool.Decides.{nat_tests}
-use Rattle.rv_decode.specs.Fields.{bits, rd, funct3, rs1, rs2, funct7, signed, i_imm, s_imm, b_imm, u_imm, j_imm}
+use Rattle.rv_decode.specs.Fields.{bits, rd, funct3, rs1, rs2, funct7, sign_extended, i_imm, s_imm, b_imm, u_imm, j_imm}
 use Rattle.rv_decode.specs.Instruction.{instr_of, op_imm_of, op_imm_w_of, gate_of, system_of, branch_op, load_op, store_op, reg_op, reg_w_op}
 use Rattle.rv_decode.specs.Formats.{FitsIn, IsMultipleOf}
 use Rattle.rv_decode.specs.Encoding.{IsEncodable, HasRegisters}
@@ -11,16 +11,16 @@ use Rattle.rv_decode.specs.declared.instr.Instr.{Instr}
 use Rattle.rv_decode.specs.declared.instr.Instr.TheVariants.{Illegal}
 use Rattle.rv_decode.proofs.Selected.{Major, at_lui, at_auipc, at_jal, at_jalr, at_branch, at_load, at_store, at_op_imm, at_op_imm_w, at_op, at_op_w, at_fence, at_system, at_gate, at_none, major_of, option_cases, test, lui-is, auipc-is, jal-is, jalr-is, branch-is, load-is, store-is, op-is, op_w-is, fence-is, jalr-none, branch-none, load-none, store-none, op-none, op_w-none, fence-none, op_imm-is, op_imm_w-is, system-is, gate-is, none-is}
 
-fits-12 : (n : ℕ) → n < 2 ^ 12 → FitsIn 12 (signed 12 n)
+fits-12 : (n : ℕ) → n < 2 ^ 12 → FitsIn 12 (sign_extended 12 n)
 fits-12 n h = grind (arith, ints)
 
-fits-13 : (n : ℕ) → n < 2 ^ 13 → n % 2 ≡ 0 → FitsIn 13 (signed 13 n) × IsMultipleOf 2 (signed 13 n)
+fits-13 : (n : ℕ) → n < 2 ^ 13 → n % 2 ≡ 0 → FitsIn 13 (sign_extended 13 n) × IsMultipleOf 2 (sign_extended 13 n)
 fits-13 n h e = grind (arith, ints)
 
-fits-21 : (n : ℕ) → n < 2 ^ 21 → n % 2 ≡ 0 → FitsIn 21 (signed 21 n) × IsMultipleOf 2 (signed 21 n)
+fits-21 : (n : ℕ) → n < 2 ^ 21 → n % 2 ≡ 0 → FitsIn 21 (sign_extended 21 n) × IsMultipleOf 2 (sign_extended 21 n)
 fits-21 n h e = grind (arith, ints)
 
-fits-32 : (n : ℕ) → n < 2 ^ 32 → n % 4096 ≡ 0 → FitsIn 32 (signed 32 n) × IsMultipleOf 4096 (signed 32 n)
+fits-32 : (n : ℕ) → n < 2 ^ 32 → n % 4096 ≡ 0 → FitsIn 32 (sign_extended 32 n) × IsMultipleOf 4096 (sign_extended 32 n)
 fits-32 n h e = grind (arith, ints)
 
 branch-fits : (w : ℕ) → FitsIn 13 (b_imm w) × IsMultipleOf 2 (b_imm w)

@@ -4,12 +4,12 @@ use Rattle.std.proofs.lemmas.Int.{ints}
 use Rattle.std.proofs.lemmas.Bool.Decides.{nat_tests}
 use Rattle.rv_decode.specs.Fields.{bits, opcode, rd, funct3, rs1, rs2, funct7, i_imm, s_imm, b_imm, u_imm, j_imm}
 use Rattle.rv_decode.specs.Instruction.{instr_of, gate_of, op_imm_of, op_imm_w_of, branch_op, load_op, store_op, reg_op, reg_w_op}
-use Rattle.rv_decode.specs.Formats.{unsigned, r_word, i_word, s_word, b_word, u_word, j_word}
+use Rattle.rv_decode.specs.Formats.{field_of, r_word, i_word, s_word, b_word, u_word, j_word}
 use Rattle.rv_decode.specs.Laws.{EncodesDecoded}
 use Rattle.rv_decode.specs.Encoding.{word_of, reg_funct3, reg_w_funct3}
 use Rattle.rv_decode.specs.declared.instr.Instr.{Instr}
 use Rattle.rv_decode.specs.declared.instr.Instr.TheVariants.{Illegal}
-use Rattle.rv_decode.proofs.Immediates.{unsigned-signed-12, unsigned-signed-13, unsigned-signed-21, unsigned-signed-32}
+use Rattle.rv_decode.proofs.Immediates.{field_of-sign_extended-12, field_of-sign_extended-13, field_of-sign_extended-21, field_of-sign_extended-32}
 use Rattle.rv_decode.proofs.Operations.{branch_funct3-is, load_funct3-is, store_funct3-is, reg_fields-are, reg_w_fields-are}
 use Rattle.rv_decode.proofs.Selected.{Major, at_lui, at_auipc, at_jal, at_jalr, at_branch, at_load, at_store, at_op_imm, at_op_imm_w, at_op, at_op_w, at_fence, at_system, at_gate, at_none, major_of, option_cases, test, jalr-is, branch-is, load-is, store-is, op-is, op_w-is, fence-is, jalr-none, branch-none, load-none, store-none, op-none, op_w-none, fence-none, system-none, op_imm-is, op_imm_w-is, gate-is, none-is}
 
@@ -21,32 +21,32 @@ module _ (w op : ℕ) (pw : w < 2 ^ 32) (o : opcode w ≡ op) where
   i-back : i_word (bits 31 20 w) (rs1 w) (funct3 w) (rd w) op ≡ w
   i-back = omega arith
 
-  i-signed : i_word (unsigned 12 (i_imm w)) (rs1 w) (funct3 w) (rd w) op ≡ w
-  i-signed = ap (λ u. i_word u (rs1 w) (funct3 w) (rd w) op) (unsigned-signed-12 (bits 31 20 w) (omega arith)) ∙ i-back
+  i-signed : i_word (field_of 12 (i_imm w)) (rs1 w) (funct3 w) (rd w) op ≡ w
+  i-signed = ap (λ u. i_word u (rs1 w) (funct3 w) (rd w) op) (field_of-sign_extended-12 (bits 31 20 w) (omega arith)) ∙ i-back
 
   s-back : s_word (bits 31 25 w * 2 ^ 5 + bits 11 7 w) (rs2 w) (rs1 w) (funct3 w) op ≡ w
   s-back = omega arith
 
-  s-signed : s_word (unsigned 12 (s_imm w)) (rs2 w) (rs1 w) (funct3 w) op ≡ w
-  s-signed = ap (λ u. s_word u (rs2 w) (rs1 w) (funct3 w) op) (unsigned-signed-12 _ (omega arith)) ∙ s-back
+  s-signed : s_word (field_of 12 (s_imm w)) (rs2 w) (rs1 w) (funct3 w) op ≡ w
+  s-signed = ap (λ u. s_word u (rs2 w) (rs1 w) (funct3 w) op) (field_of-sign_extended-12 _ (omega arith)) ∙ s-back
 
   b-back : b_word (bits 31 31 w * 2 ^ 12 + bits 7 7 w * 2 ^ 11 + bits 30 25 w * 2 ^ 5 + bits 11 8 w * 2) (rs2 w) (rs1 w) (funct3 w) op ≡ w
   b-back = omega arith
 
-  b-signed : b_word (unsigned 13 (b_imm w)) (rs2 w) (rs1 w) (funct3 w) op ≡ w
-  b-signed = ap (λ u. b_word u (rs2 w) (rs1 w) (funct3 w) op) (unsigned-signed-13 (bits 31 31 w * 2 ^ 12 + bits 7 7 w * 2 ^ 11 + bits 30 25 w * 2 ^ 5 + bits 11 8 w * 2) (omega arith)) ∙ b-back
+  b-signed : b_word (field_of 13 (b_imm w)) (rs2 w) (rs1 w) (funct3 w) op ≡ w
+  b-signed = ap (λ u. b_word u (rs2 w) (rs1 w) (funct3 w) op) (field_of-sign_extended-13 (bits 31 31 w * 2 ^ 12 + bits 7 7 w * 2 ^ 11 + bits 30 25 w * 2 ^ 5 + bits 11 8 w * 2) (omega arith)) ∙ b-back
 
   u-back : u_word (bits 31 12 w * 2 ^ 12) (rd w) op ≡ w
   u-back = omega arith
 
-  u-signed : u_word (unsigned 32 (u_imm w)) (rd w) op ≡ w
-  u-signed = ap (λ u. u_word u (rd w) op) (unsigned-signed-32 (bits 31 12 w * 2 ^ 12) (omega arith)) ∙ u-back
+  u-signed : u_word (field_of 32 (u_imm w)) (rd w) op ≡ w
+  u-signed = ap (λ u. u_word u (rd w) op) (field_of-sign_extended-32 (bits 31 12 w * 2 ^ 12) (omega arith)) ∙ u-back
 
   j-back : j_word (bits 31 31 w * 2 ^ 20 + bits 19 12 w * 2 ^ 12 + bits 20 20 w * 2 ^ 11 + bits 30 21 w * 2) (rd w) op ≡ w
   j-back = omega arith
 
-  j-signed : j_word (unsigned 21 (j_imm w)) (rd w) op ≡ w
-  j-signed = ap (λ u. j_word u (rd w) op) (unsigned-signed-21 (bits 31 31 w * 2 ^ 20 + bits 19 12 w * 2 ^ 12 + bits 20 20 w * 2 ^ 11 + bits 30 21 w * 2) (omega arith)) ∙ j-back
+  j-signed : j_word (field_of 21 (j_imm w)) (rd w) op ≡ w
+  j-signed = ap (λ u. j_word u (rd w) op) (field_of-sign_extended-21 (bits 31 31 w * 2 ^ 20 + bits 19 12 w * 2 ^ 12 + bits 20 20 w * 2 ^ 11 + bits 30 21 w * 2) (omega arith)) ∙ j-back
 
 -- ---- by the opcode
 module _ (w : ℕ) (pw : w < 2 ^ 32) (legal : instr_of w ≢ Illegal) where
@@ -65,19 +65,19 @@ module _ (w : ℕ) (pw : w < 2 ^ 32) (legal : instr_of w ≢ Illegal) where
   branch-back : opcode w ≡ 0b1100011 → word_of (instr_of w) ≡ w
   branch-back o = ⊎_elim
       (λ n. absurd (legal (branch-none w _ o refl n)))
-      (λ (op, s). ap word_of (branch-is w _ op o refl s) ∙ ap (λ f. b_word (unsigned 13 (b_imm w)) (rs2 w) (rs1 w) f 0b1100011) (branch_funct3-is _ op s) ∙ b-signed w _ pw o)
+      (λ (op, s). ap word_of (branch-is w _ op o refl s) ∙ ap (λ f. b_word (field_of 13 (b_imm w)) (rs2 w) (rs1 w) f 0b1100011) (branch_funct3-is _ op s) ∙ b-signed w _ pw o)
       (option_cases (branch_op (funct3 w)))
 
   load-back : opcode w ≡ 0b0000011 → word_of (instr_of w) ≡ w
   load-back o = ⊎_elim
       (λ n. absurd (legal (load-none w _ o refl n)))
-      (λ (op, s). ap word_of (load-is w _ op o refl s) ∙ ap (λ f. i_word (unsigned 12 (i_imm w)) (rs1 w) f (rd w) 0b0000011) (load_funct3-is _ op s) ∙ i-signed w _ pw o)
+      (λ (op, s). ap word_of (load-is w _ op o refl s) ∙ ap (λ f. i_word (field_of 12 (i_imm w)) (rs1 w) f (rd w) 0b0000011) (load_funct3-is _ op s) ∙ i-signed w _ pw o)
       (option_cases (load_op (funct3 w)))
 
   store-back : opcode w ≡ 0b0100011 → word_of (instr_of w) ≡ w
   store-back o = ⊎_elim
       (λ n. absurd (legal (store-none w _ o refl n)))
-      (λ (op, s). ap word_of (store-is w _ op o refl s) ∙ ap (λ f. s_word (unsigned 12 (s_imm w)) (rs2 w) (rs1 w) f 0b0100011) (store_funct3-is _ op s) ∙ s-signed w _ pw o)
+      (λ (op, s). ap word_of (store-is w _ op o refl s) ∙ ap (λ f. s_word (field_of 12 (s_imm w)) (rs2 w) (rs1 w) f 0b0100011) (store_funct3-is _ op s) ∙ s-signed w _ pw o)
       (option_cases (store_op (funct3 w)))
 
   op-back : opcode w ≡ 0b0110011 → word_of (instr_of w) ≡ w
@@ -104,7 +104,7 @@ op_imm-back w pw o legal = grind (arith, nat_tests, ints)
 -- ---- every word
 module _ (w : ℕ) (pw : w < 2 ^ 32) (legal : instr_of w ≢ Illegal) where
   jalr-back : opcode w ≡ 0b1100111 → word_of (instr_of w) ≡ w
-  jalr-back o = ⊎_elim (λ f. ap word_of (jalr-is w o f) ∙ ap (λ f. i_word (unsigned 12 (i_imm w)) (rs1 w) f (rd w) 0b1100111) (sym f) ∙ i-signed w _ pw o) (λ n. absurd (legal (jalr-none w o n))) (test (funct3 w) 0)
+  jalr-back o = ⊎_elim (λ f. ap word_of (jalr-is w o f) ∙ ap (λ f. i_word (field_of 12 (i_imm w)) (rs1 w) f (rd w) 0b1100111) (sym f) ∙ i-signed w _ pw o) (λ n. absurd (legal (jalr-none w o n))) (test (funct3 w) 0)
 
   fence-back : opcode w ≡ 0b0001111 → word_of (instr_of w) ≡ w
   fence-back o = ⊎_elim (λ f. ap word_of (fence-is w o f)) (λ n. absurd (legal (fence-none w o n))) (test (funct3 w) 0)

@@ -2,7 +2,7 @@
 use Rattle.std.specs.Prelude.{◌≡◌, ℕ, ◌+◌, ◌*◌, ◌^◌, ◌<◌, true, false, ℤ}
 use Rattle.spec_base.specs.Park.{park_number}
 use Rattle.rv_decode.specs.Fields.{opcode, funct3}
-use Rattle.rv_decode.specs.Formats.{unsigned, FitsIn, IsMultipleOf, IsBelow, r_word, i_word, s_word, b_word, u_word, j_word}
+use Rattle.rv_decode.specs.Formats.{field_of, FitsIn, IsMultipleOf, IsBelow, r_word, i_word, s_word, b_word, u_word, j_word}
 use Rattle.rv_decode.specs.declared.instr.Instr.{Instr}
 use Rattle.rv_decode.specs.declared.instr.Instr.TheVariants.{Lui, Auipc, Jal, Jalr, Branch, Load, Store, OpImm, OpImmW, Op, OpW, Fence, Ecall, Ebreak, Hgate, Hleave, Hsite, Hkey, Hstop, Hrestart, Hcall, Hpark, Illegal}
 use Rattle.rv_decode.specs.declared.instr.BranchOp.{BranchOp}
@@ -60,10 +60,10 @@ imm_funct3 Srai = 0b101
 
 -- imm[11:0] of each operation on an immediate: a shift has funct6 above its six bits of amount (section 5.2)
 abbrev pub imm_bits : ImmOp → ℤ → ℕ
-imm_bits Slli imm = unsigned 6 imm
-imm_bits Srli imm = unsigned 6 imm
-imm_bits Srai imm = 0b010000 * 2 ^ 6 + unsigned 6 imm
-imm_bits _ imm = unsigned 12 imm
+imm_bits Slli imm = field_of 6 imm
+imm_bits Srli imm = field_of 6 imm
+imm_bits Srai imm = 0b010000 * 2 ^ 6 + field_of 6 imm
+imm_bits _ imm = field_of 12 imm
 
 -- funct3 of each operation on an immediate at 32 bits (chapter 24, RV64I)
 abbrev pub imm_w_funct3 : ImmWOp → ℕ
@@ -74,10 +74,10 @@ imm_w_funct3 Sraiw = 0b101
 
 -- imm[11:0] of each operation on an immediate at 32 bits: a shift has funct7 above its five bits of amount (section 5.2)
 abbrev pub imm_w_bits : ImmWOp → ℤ → ℕ
-imm_w_bits Addiw imm = unsigned 12 imm
-imm_w_bits Slliw imm = unsigned 5 imm
-imm_w_bits Srliw imm = unsigned 5 imm
-imm_w_bits Sraiw imm = 0b0100000 * 2 ^ 5 + unsigned 5 imm
+imm_w_bits Addiw imm = field_of 12 imm
+imm_w_bits Slliw imm = field_of 5 imm
+imm_w_bits Srliw imm = field_of 5 imm
+imm_w_bits Sraiw imm = 0b0100000 * 2 ^ 5 + field_of 5 imm
 
 -- funct7 of each operation on two registers (chapter 24, RV32I and RV32M)
 abbrev pub reg_funct7 : RegOp → ℕ
@@ -149,13 +149,13 @@ reg_w_funct3 Remuw = 0b111
 
 -- the word of an instruction: its format with its fields; Illegal has no word of its own, and 0 is an illegal one
 abbrev pub word_of : Instr → ℕ
-word_of (Lui rd imm) = u_word (unsigned 32 imm) rd 0b0110111
-word_of (Auipc rd imm) = u_word (unsigned 32 imm) rd 0b0010111
-word_of (Jal rd imm) = j_word (unsigned 21 imm) rd 0b1101111
-word_of (Jalr rd rs1 imm) = i_word (unsigned 12 imm) rs1 0b000 rd 0b1100111
-word_of (Branch op rs1 rs2 imm) = b_word (unsigned 13 imm) rs2 rs1 (branch_funct3 op) 0b1100011
-word_of (Load op rd rs1 imm) = i_word (unsigned 12 imm) rs1 (load_funct3 op) rd 0b0000011
-word_of (Store op rs1 rs2 imm) = s_word (unsigned 12 imm) rs2 rs1 (store_funct3 op) 0b0100011
+word_of (Lui rd imm) = u_word (field_of 32 imm) rd 0b0110111
+word_of (Auipc rd imm) = u_word (field_of 32 imm) rd 0b0010111
+word_of (Jal rd imm) = j_word (field_of 21 imm) rd 0b1101111
+word_of (Jalr rd rs1 imm) = i_word (field_of 12 imm) rs1 0b000 rd 0b1100111
+word_of (Branch op rs1 rs2 imm) = b_word (field_of 13 imm) rs2 rs1 (branch_funct3 op) 0b1100011
+word_of (Load op rd rs1 imm) = i_word (field_of 12 imm) rs1 (load_funct3 op) rd 0b0000011
+word_of (Store op rs1 rs2 imm) = s_word (field_of 12 imm) rs2 rs1 (store_funct3 op) 0b0100011
 word_of (OpImm op rd rs1 imm) = i_word (imm_bits op imm) rs1 (imm_funct3 op) rd 0b0010011
 word_of (OpImmW op rd rs1 imm) = i_word (imm_w_bits op imm) rs1 (imm_w_funct3 op) rd 0b0011011
 word_of (Op op rd rs1 rs2) = r_word (reg_funct7 op) rs2 rs1 (reg_funct3 op) rd 0b0110011

@@ -3,9 +3,9 @@ use Rattle.std.specs.Prelude.{◌≡◌, ℕ, suc, ◌+◌, ◌-◌, ◌*◌, �
 use Rattle.rv_decode.specs.Fields.{bits}
 
 -- an immediate as a field of so many bits, in two's complement
-abbrev pub unsigned : ℕ → ℤ → ℕ
-unsigned width (pos n) = n
-unsigned width (negsuc n) = 2 ^ width - suc n
+abbrev pub field_of : ℕ → ℤ → ℕ
+field_of width (pos n) = n
+field_of width (negsuc n) = 2 ^ width - suc n
 
 -- the immediate is a number of so many bits, in two's complement
 abbrev pub FitsIn : ℕ → ℤ → Type 0

@@ -72,11 +72,11 @@ shift op w = OpImm op (rd w) (rs1 w) (pos (bits 25 20 w))
 abbrev pub shift_w : ImmWOp → ℕ → Instr
 shift_w op w = OpImmW op (rd w) (rs1 w) (pos (bits 24 20 w))
 
-abbrev pub reg : RegOp → ℕ → Instr
-reg op w = Op op (rd w) (rs1 w) (rs2 w)
+abbrev pub register_op : RegOp → ℕ → Instr
+register_op op w = Op op (rd w) (rs1 w) (rs2 w)
 
-abbrev pub reg_w : RegWOp → ℕ → Instr
-reg_w op w = OpW op (rd w) (rs1 w) (rs2 w)
+abbrev pub register_w_op : RegWOp → ℕ → Instr
+register_w_op op w = OpW op (rd w) (rs1 w) (rs2 w)
 
 -- the 78 rows: opcode, funct3 and funct7 (or the whole word), then the instruction
 abbrev pub rows : List Row
@@ -122,35 +122,35 @@ rows =
     by_funct7 0b0011011 0b101 0b0000000 (shift_w Srliw) ∷
     by_funct7 0b0011011 0b101 0b0100000 (shift_w Sraiw) ∷
     -- OP
-    by_funct7 0b0110011 0b000 0b0000000 (reg Add) ∷
-    by_funct7 0b0110011 0b001 0b0000000 (reg Sll) ∷
-    by_funct7 0b0110011 0b010 0b0000000 (reg Slt) ∷
-    by_funct7 0b0110011 0b011 0b0000000 (reg Sltu) ∷
-    by_funct7 0b0110011 0b100 0b0000000 (reg Xor) ∷
-    by_funct7 0b0110011 0b101 0b0000000 (reg Srl) ∷
-    by_funct7 0b0110011 0b110 0b0000000 (reg Or) ∷
-    by_funct7 0b0110011 0b111 0b0000000 (reg And) ∷
-    by_funct7 0b0110011 0b000 0b0100000 (reg Sub) ∷
-    by_funct7 0b0110011 0b101 0b0100000 (reg Sra) ∷
-    by_funct7 0b0110011 0b000 0b0000001 (reg Mul) ∷
-    by_funct7 0b0110011 0b001 0b0000001 (reg Mulh) ∷
-    by_funct7 0b0110011 0b010 0b0000001 (reg Mulhsu) ∷
-    by_funct7 0b0110011 0b011 0b0000001 (reg Mulhu) ∷
-    by_funct7 0b0110011 0b100 0b0000001 (reg Div) ∷
-    by_funct7 0b0110011 0b101 0b0000001 (reg Divu) ∷
-    by_funct7 0b0110011 0b110 0b0000001 (reg Rem) ∷
-    by_funct7 0b0110011 0b111 0b0000001 (reg Remu) ∷
+    by_funct7 0b0110011 0b000 0b0000000 (register_op Add) ∷
+    by_funct7 0b0110011 0b001 0b0000000 (register_op Sll) ∷
+    by_funct7 0b0110011 0b010 0b0000000 (register_op Slt) ∷
+    by_funct7 0b0110011 0b011 0b0000000 (register_op Sltu) ∷
+    by_funct7 0b0110011 0b100 0b0000000 (register_op Xor) ∷
+    by_funct7 0b0110011 0b101 0b0000000 (register_op Srl) ∷
+    by_funct7 0b0110011 0b110 0b0000000 (register_op Or) ∷
+    by_funct7 0b0110011 0b111 0b0000000 (register_op And) ∷
+    by_funct7 0b0110011 0b000 0b0100000 (register_op Sub) ∷
+    by_funct7 0b0110011 0b101 0b0100000 (register_op Sra) ∷
+    by_funct7 0b0110011 0b000 0b0000001 (register_op Mul) ∷
+    by_funct7 0b0110011 0b001 0b0000001 (register_op Mulh) ∷
+    by_funct7 0b0110011 0b010 0b0000001 (register_op Mulhsu) ∷
+    by_funct7 0b0110011 0b011 0b0000001 (register_op Mulhu) ∷
+    by_funct7 0b0110011 0b100 0b0000001 (register_op Div) ∷
+    by_funct7 0b0110011 0b101 0b0000001 (register_op Divu) ∷
+    by_funct7 0b0110011 0b110 0b0000001 (register_op Rem) ∷
+    by_funct7 0b0110011 0b111 0b0000001 (register_op Remu) ∷
     -- OP-32
-    by_funct7 0b0111011 0b000 0b0000000 (reg_w Addw) ∷
-    by_funct7 0b0111011 0b001 0b0000000 (reg_w Sllw) ∷
-    by_funct7 0b0111011 0b101 0b0000000 (reg_w Srlw) ∷
-    by_funct7 0b0111011 0b000 0b0100000 (reg_w Subw) ∷
-    by_funct7 0b0111011 0b101 0b0100000 (reg_w Sraw) ∷
-    by_funct7 0b0111011 0b000 0b0000001 (reg_w Mulw) ∷
-    by_funct7 0b0111011 0b100 0b0000001 (reg_w Divw) ∷
-    by_funct7 0b0111011 0b101 0b0000001 (reg_w Divuw) ∷
-    by_funct7 0b0111011 0b110 0b0000001 (reg_w Remw) ∷
-    by_funct7 0b0111011 0b111 0b0000001 (reg_w Remuw) ∷
+    by_funct7 0b0111011 0b000 0b0000000 (register_w_op Addw) ∷
+    by_funct7 0b0111011 0b001 0b0000000 (register_w_op Sllw) ∷
+    by_funct7 0b0111011 0b101 0b0000000 (register_w_op Srlw) ∷
+    by_funct7 0b0111011 0b000 0b0100000 (register_w_op Subw) ∷
+    by_funct7 0b0111011 0b101 0b0100000 (register_w_op Sraw) ∷
+    by_funct7 0b0111011 0b000 0b0000001 (register_w_op Mulw) ∷
+    by_funct7 0b0111011 0b100 0b0000001 (register_w_op Divw) ∷
+    by_funct7 0b0111011 0b101 0b0000001 (register_w_op Divuw) ∷
+    by_funct7 0b0111011 0b110 0b0000001 (register_w_op Remw) ∷
+    by_funct7 0b0111011 0b111 0b0000001 (register_w_op Remuw) ∷
     -- MISC-MEM: every field but opcode and funct3 is free
     by_funct3 0b0001111 0b000 (λ w. Fence w) ∷
     -- SYSTEM

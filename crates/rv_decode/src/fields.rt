@@ -1,7 +1,7 @@
 //! The fields of an instruction word.
 
 ghost use Rattle.std.specs.Prelude.{◌≡◌, ◌+◌, ◌*◌, ◌^◌, ◌<◌, ◌≤◌};
-ghost use Rattle.rv_decode.specs.Fields.{bits, opcode, rd, funct3, rs1, rs2, funct7, signed, i_imm, s_imm, b_imm, u_imm, j_imm};
+ghost use Rattle.rv_decode.specs.Fields.{bits, opcode, rd, funct3, rs1, rs2, funct7, sign_extended, i_imm, s_imm, b_imm, u_imm, j_imm};
 
 use spec_base::Reg;
 
@@ -55,7 +55,7 @@ pub fn signed_of(width: u32, value: u32) -> i64
     requires some { 0 < width }
     requires most { width ≤ 32 }
     requires fits { value < 2 ^ width }
-    ensures { result ≡ signed width value }
+    ensures { result ≡ sign_extended width value }
 {
     let value = value as i64;
     if value < 1i64 << (width - 1) {

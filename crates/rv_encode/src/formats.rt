@@ -2,7 +2,7 @@
 //! sections 2.2 and 2.3). An immediate is given whole, as the number of its bits.
 
 ghost use Rattle.std.specs.Prelude.{◌≡◌, ◌+◌, ◌*◌, ◌^◌, ◌<◌, ◌≤◌};
-ghost use Rattle.rv_decode.specs.Formats.{unsigned, FitsIn, r_word, i_word, s_word, b_word, u_word, j_word};
+ghost use Rattle.rv_decode.specs.Formats.{field_of, FitsIn, r_word, i_word, s_word, b_word, u_word, j_word};
 ghost use Rattle.rv_decode.specs.Fields.{bits};
 
 use spec_base::Reg;
@@ -12,7 +12,7 @@ pub fn unsigned_of(width: u32, imm: i64) -> u32
     requires some { 0 < width }
     requires most { width ≤ 32 }
     requires fits { FitsIn width imm }
-    ensures number { result ≡ unsigned width imm }
+    ensures number { result ≡ field_of width imm }
     ensures below { result < 2 ^ width }
 {
     if imm < 0 {
