@@ -4,7 +4,7 @@ use Rattle.std.specs.List.{list_any}
 use Rattle.std.proofs.lemmas.Bool.Decides.{nat_tests}
 use Rattle.spec_base.specs.declared.layout.Version.{Version}
 use Rattle.spec_base.specs.declared.layout.Version.TheVariants.{One, Two}
-use Rattle.spec_base.specs.Layout.{image_limit, is_lawful}
+use Rattle.spec_base.specs.Layout.{range_start, image_limit, is_lawful}
 use Rattle.elf_image.specs.declared.header.FileHeader.{FileHeader}
 use Rattle.elf_image.specs.declared.segments.Segment.{Segment}
 use Rattle.elf_image.specs.declared.scan.Scan.{Scan}
@@ -109,7 +109,7 @@ placed limit bytes s h =
     record {
       fits = at-most s.size s.length second.0;
       in_file = is-positive s.length (length bytes) (s.offset + s.length) second.1;
-      above = at-most s.address 0x1000 third.1;
+      above = at-most s.address range_start third.1;
       below = at-most limit (end_of s) last.1;
     }
 
@@ -186,7 +186,7 @@ true-lt a b h = grind (arith, nat_tests)
 true-eq : (a b : ℕ) → a ≡ b → (a == b) ≡ true
 true-eq a b h = grind (arith, nat_tests)
 
-lawful : (version : Version) (start end k : ℕ) → start % 4 ≡ 0 → end % 4 ≡ 0 → 0x1000 ≤ start → start < end → end ≤ image_limit version
+lawful : (version : Version) (start end k : ℕ) → start % 4 ≡ 0 → end % 4 ≡ 0 → range_start ≤ start → start < end → end ≤ image_limit version
     → end - start ≤ 1_048_576 → 1 ≤ k → k ≤ 65_536
     → IsTrue (is_lawful (record { text_start = start; text_end = end; regions = k; version = version }))
 lawful version start end k a b c d e f g h =
@@ -240,7 +240,7 @@ built bytes version image t given table few apart ordered text entry start end b
     let some_code : 0 < code.length = positive code (find-passes is_code image.segments code text.segment_is) in
     let in_file : code.offset + code.length ≤ length bytes = code_placed.in_file some_code in
     let fits : code.length ≤ code.size = code_placed.fits in
-    let above : 0x1000 ≤ code.address = code_placed.above in
+    let above : range_start ≤ code.address = code_placed.above in
     let below : code.address + code.size ≤ image_limit version = code_placed.below in
     let after : code.address ≤ image.text_start = rw (← start) text.after in
     let before : image.text_end ≤ code.address + code.length = rw (← end) text.before in
@@ -248,7 +248,7 @@ built bytes version image t given table few apart ordered text entry start end b
     let few_words : image.text_end - image.text_start ≤ 1_048_576 = rw (← start, ← end) text.few in
     let start_aligned : image.text_start % 4 ≡ 0 = rw (← start) text.start_aligned in
     let end_aligned : image.text_end % 4 ≡ 0 = rw (← end) text.end_aligned in
-    let text_above : 0x1000 ≤ image.text_start = omega (arith, above, after) in
+    let text_above : range_start ≤ image.text_start = omega (arith, above, after) in
     let text_below : image.text_end ≤ image_limit version = omega (arith, before, fits, below) in
     record {
       given = given;

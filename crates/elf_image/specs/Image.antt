@@ -1,7 +1,7 @@
 -- What holds of an accepted file's image (this project's own). All of it follows from the profile.
 use Rattle.std.specs.Prelude.{◌≡◌, ℕ, ◌+◌, ◌-◌, ◌/◌, ◌%◌, ◌<◌, ◌≤◌, List, [], ◌∷◌, zero, suc, length, All, AllPairs, IsTrue, Option, Some, None, Ok}
 use Rattle.spec_base.specs.declared.layout.Version.{Version}
-use Rattle.spec_base.specs.Layout.{image_limit, is_lawful}
+use Rattle.spec_base.specs.Layout.{range_start, image_limit, is_lawful}
 use Rattle.elf_image.specs.Fields.{word_at}
 use Rattle.elf_image.specs.Segments.{end_of, highest_end}
 use Rattle.elf_image.specs.Header.{file_header, HasTable}
@@ -11,11 +11,11 @@ use Rattle.elf_image.specs.declared.segments.Segment.{Segment}
 use Rattle.elf_image.specs.declared.image.Image.{Image}
 use Rattle.elf_image.specs.declared.image.Outline.{Outline}
 
--- its file part isn't longer than it is and stands in the file, and it lies in [0x1000, limit)
+-- its file part isn't longer than it is and stands in the file, and it lies in [range_start, limit)
 pub record IsPlaced (limit : ℕ) (bytes : List ℕ) (s : Segment) : Type 0 where
   pub fits : s.length ≤ s.size
   pub in_file : 0 < s.length → s.offset + s.length ≤ length bytes
-  pub above : 0x1000 ≤ s.address
+  pub above : range_start ≤ s.address
   pub below : end_of s ≤ limit
 
 -- the text is a nonempty list of at most 262,144 aligned words in the file part of the executable segment, which stands in the file
@@ -38,7 +38,7 @@ pub record IsImage (bytes : List ℕ) (version : Version) (image : Image) : Type
   pub placed : All (IsPlaced (image_limit version) bytes) image.segments
   pub ascending : AllPairs (λ s t. end_of s ≤ t.address) image.segments
   pub text : IsTextOf bytes image
-  pub text_above : 0x1000 ≤ image.text_start
+  pub text_above : range_start ≤ image.text_start
   pub text_below : image.text_end ≤ image_limit version
   pub lawful : (k : ℕ) → 1 ≤ k → k ≤ 65_536
       → IsTrue (is_lawful (record { text_start = image.text_start; text_end = image.text_end; regions = k; version = version }))

@@ -2,7 +2,7 @@
 use Rattle.std.specs.Prelude.{ℕ, zero, suc, ◌+◌, ◌*◌, ◌==◌, ◌&&◌, ◌||◌, Bool, true, false, not, nat_lt, max, if◌then◌else◌, List, [], ◌∷◌, ◌++◌, length, map, filter, count_by, Option, Some, None}
 use Rattle.std.specs.List.{list_any}
 use Rattle.spec_base.specs.declared.layout.Version.{Version}
-use Rattle.spec_base.specs.Layout.{image_limit}
+use Rattle.spec_base.specs.Layout.{range_start, image_limit}
 use Rattle.elf_image.specs.Fields.{word_at, xword_at, has_bit}
 use Rattle.elf_image.specs.Header.{file_header}
 use Rattle.elf_image.specs.declared.segments.ProgramHeader.{ProgramHeader}
@@ -67,12 +67,12 @@ abbrev pub highest_end : List Segment → ℕ
 highest_end [] = 0
 highest_end (s ∷ ss) = max (end_of s) (highest_end ss)
 
--- its file part is longer than it is or isn't in the file, or it doesn't lie in [0x1000, limit)
+-- its file part is longer than it is or isn't in the file, or it doesn't lie in [range_start, limit)
 abbrev pub is_misplaced : ℕ → ℕ → Segment → Bool
 is_misplaced limit file_length s =
     nat_lt s.size s.length
     || (not (s.length == 0) && nat_lt file_length (s.offset + s.length))
-    || nat_lt s.address 0x1000
+    || nat_lt s.address range_start
     || nat_lt limit (end_of s)
 
 -- some segment starts before the end of one that precedes it
