@@ -35,6 +35,7 @@ access_words helper rs1 imm =
     sd 31 X31 0 ∷ addi 31 rs1 imm ∷ sd 31 ADR 0
     ∷ lui 31 (hi (helpers_start + helper)) ∷ jalr 31 (lo (helpers_start + helper)) 31 ∷ []
 
+-- the helper that finds the place of a load
 abbrev pub load_helper : LoadOp → ℕ
 load_helper Lb = LOAD1
 load_helper Lbu = LOAD1
@@ -44,6 +45,7 @@ load_helper Lw = LOAD4
 load_helper Lwu = LOAD4
 load_helper Ld = LOAD8
 
+-- the helper that finds the place of a store
 abbrev pub store_helper : StoreOp → ℕ
 store_helper Sb = STORE1
 store_helper Sh = STORE2
@@ -64,6 +66,7 @@ auipc_words rd v = lui rd (hi (v / 4)) ∷ addi rd rd (lo (v / 4)) ∷ slli rd r
 abbrev pub park_words : List Instr
 park_words = Hpark park.Fault ∷ []
 
+-- by whether t is a target
 abbrev pub jal_if : Bool → Layout → ℕ → ℕ → ℕ → List Instr
 jal_if true l p rd t = lui rd (hi (p + 4)) ∷ addi rd rd (lo (p + 4)) ∷ sd 31 X31 0 ∷ lui 31 (hi (block_at l t)) ∷ jalr 0 (lo (block_at l t)) 31 ∷ []
 jal_if false l p rd t = park_words
@@ -77,12 +80,14 @@ abbrev pub link_spill : Bool → Instr
 link_spill true = sd 31 X31 0
 link_spill false = nop
 
+-- jalr: the target goes to ADR, and JUMP takes it up
 abbrev pub jalr_words : ℕ → ℕ → ℕ → ℤ → List Instr
 jalr_words p rd rs1 imm =
     sd 31 X31 0 ∷ addi 31 rs1 imm ∷ sd 31 ADR 0
     ∷ lui rd (hi (p + 4)) ∷ addi rd rd (lo (p + 4)) ∷ link_spill (rd == 31)
     ∷ lui 31 (hi (helpers_start + JUMP)) ∷ jalr 0 (lo (helpers_start + JUMP)) 31 ∷ []
 
+-- where a taken branch goes: to the block of t (true), or to a park
 abbrev pub taken_word : Bool → Layout → ℕ → ℕ → Instr
 taken_word true l p t = to_block l p 3 t
 taken_word false l p t = Hpark park.Fault
@@ -96,6 +101,7 @@ abbrev pub load_restore : Bool → Instr
 load_restore true = nop
 load_restore false = ld 31 X31 0
 
+-- a load through the place in x31
 abbrev pub load_words : LoadOp → ℕ → ℕ → ℤ → List Instr
 load_words op rd rs1 imm =
     access_words (load_helper op) rs1 imm
@@ -106,6 +112,7 @@ abbrev pub store_end : Bool → StoreOp → ℕ → List Instr
 store_end true op rs2 = ld 30 X31 0 ∷ Store op 31 30 (pos 0) ∷ ld 30 X30 0 ∷ ld 31 X31 0 ∷ next_block 10 ∷ []
 store_end false op rs2 = ld 30 X30 0 ∷ Store op 31 rs2 (pos 0) ∷ ld 31 X31 0 ∷ next_block 9 ∷ []
 
+-- a store through the place in x31
 abbrev pub store_words : StoreOp → ℕ → ℕ → ℤ → List Instr
 store_words op rs1 rs2 imm = access_words (store_helper op) rs1 imm ++ store_end (rs2 == 31) op rs2
 
@@ -147,6 +154,7 @@ words_of l p Illegal = park_words
 abbrev pub with_pad : List Instr → List Instr
 with_pad words = take 16 (ld 31 X31 0 ∷ (words ++ replicate 15 Illegal))
 
+-- the 16 words of the block of an instruction at p
 abbrev pub block : Layout → ℕ → Instr → List Instr
 block l p i = with_pad (words_of l p i)
 

@@ -37,6 +37,7 @@ access_helpers l =
 
 -- ---- JUMP: to the block of the address in ADR
 
+-- the 16 words of JUMP
 abbrev pub jump_words : Layout → List Instr
 jump_words l =
     sd 30 X30 0 ∷ ld 31 ADR 0 ∷ andi 31 31 (negsuc 1)
@@ -48,6 +49,7 @@ jump_words l =
 
 -- ---- LTAIL: x31 becomes the place to load from
 
+-- the 15 words of LTAIL
 abbrev pub load_tail : List Instr
 load_tail =
     srli 30 31 8 ∷ slli 30 30 2 ∷ lui 31 (hi table_start)
@@ -58,6 +60,7 @@ load_tail =
 
 -- ---- STAIL: x31 becomes the place to store to. Words 7 to 37 make a new copy: its bytes, its word of the list, the count, and last its entry in the table
 
+-- the 46 words of STAIL
 abbrev pub store_tail : Layout → List Instr
 store_tail l =
     srli 30 31 8 ∷ slli 30 30 2 ∷ lui 31 (hi table_start)
@@ -79,6 +82,7 @@ store_tail l =
 
 -- ---- APPEND: a keyed read joins the hint log as its key and its asked count
 
+-- the 24 words of APPEND
 abbrev pub append_words : List Instr
 append_words =
     sd 31 RET 0 ∷ sd 30 X30 0 ∷ Hkey 31
@@ -97,6 +101,7 @@ abbrev pub box_loads : ℕ → ℕ → List Instr
 box_loads i zero = []
 box_loads i (suc n) = ld i (pos (8 * i)) 31 ∷ box_loads (i + 1) n
 
+-- words 1 to 11 of RESTART: each listed entry of the table becomes 0, and then the count
 abbrev pub clear_words : List Instr
 clear_words =
     lui 28 (hi list_start) ∷ ld 29 (pos 0) 28 ∷ addi 30 28 (pos 8)
@@ -104,6 +109,7 @@ clear_words =
     ∷ lwu 31 (pos 0) 30 ∷ sw 0 (pos 0) 31 ∷ addi 30 30 (pos 4)
     ∷ jump_to 10 6 ∷ sd 0 (pos 0) 28 ∷ []
 
+-- words 12 to 50 of RESTART: the registers come from the box, the restarting read is assumed, and JUMP goes on behind the site
 abbrev pub unbox_words : List Instr
 unbox_words =
     lui 31 (hi box_start)
@@ -114,6 +120,7 @@ unbox_words =
 
 -- ---- the 282 words
 
+-- all helpers, in the order of their offsets
 abbrev pub helpers : Layout → List Instr
 helpers l =
     access_helpers l ++ jump_words l ++ load_tail ++ store_tail l ++ append_words ++ clear_words ++ unbox_words

@@ -9,6 +9,7 @@ use Rattle.rv_model.specs.Memory.{Memory, loaded}
 abbrev pub log_head : Memory → ℕ
 log_head link = loaded link link_start 8
 
+-- how many pairs were appended
 abbrev pub log_tail : Memory → ℕ
 log_tail link = loaded link (link_start + 8) 8
 
@@ -16,14 +17,17 @@ log_tail link = loaded link (link_start + 8) 8
 abbrev pub log_place : ℕ → ℕ
 log_place i = link_start + 256 + 16 * (i % 64)
 
+-- pair number i: its key and its asked count
 abbrev pub logged : Memory → ℕ → ℕ × ℕ
 logged link i = (loaded link (log_place i) 8, loaded link (log_place i + 8) 8)
 
 -- ---- the box: the site, then the registers
 
+-- the restart box
 abbrev pub box_start : ℕ
 box_start = link_start + 0x1000
 
+-- the site of the call that restarted the shadow
 abbrev pub boxed_site : Memory → ℕ
 boxed_site link = loaded link box_start 8
 

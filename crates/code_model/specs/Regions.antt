@@ -40,6 +40,7 @@ shadowed shared program a = byte_by_entry (entry_of shared (a / 256)) shared pro
 
 -- ---- a copy is made: the region's bytes, its word of the list, the count, its entry
 
+-- a copy of a region in a slot
 abbrev pub with_copy_at : ℕ → Layout → List ℕ → Memory → Memory → ℕ → Memory
 with_copy_at slot l words program shared region =
     stored (stored (stored (patched shared (slot_address slot) 256 (λ i. program_byte l words program (256 * region + i)))
@@ -49,12 +50,14 @@ with_copy_at slot l words program shared region =
 abbrev pub with_copy : Layout → List ℕ → Memory → Memory → ℕ → Memory
 with_copy l words program shared region = with_copy_at (slots_in_use shared) l words program shared region
 
+-- regions get copies in order
 unfoldable pub with_copies : Layout → List ℕ → Memory → Memory → List ℕ → Memory
 with_copies l words program shared [] = shared
 with_copies l words program shared (region ∷ regions) = with_copies l words program (with_copy l words program shared region) regions
 
 -- ---- bytes are set in the copies
 
+-- the place of a byte in its region's copy
 abbrev pub copy_place : ℕ → ℕ → ℕ
 copy_place entry a = slot_address (entry - 1) + a % 256
 

@@ -16,6 +16,7 @@ pub data CallPlan : Type 0 where
 
 -- ---- the calls by number
 
+-- the calls of the table, and all others
 pub data CallKind : Type 0 where
   Open : CallKind
   OpenAt : CallKind
@@ -27,6 +28,7 @@ pub data CallKind : Type 0 where
   Break : CallKind
   Unknown : CallKind
 
+-- which call a number asks for
 abbrev pub kind_of : ℕ → CallKind
 kind_of number =
     elim (number == 1024) [
@@ -87,10 +89,12 @@ name_at data_at m a = not_empty (name_from data_at m a 256 [])
 
 -- ---- open, openat
 
+-- a file is looked for where a descriptor is free
 abbrev pub look_if_free : Descriptors → Name → Option ℕ → CallPlan
 look_if_free f name None = Set f EMFILE
 look_if_free f name (Some d) = Look name
 
+-- by what reading the name gave
 abbrev pub open_named : Descriptors → Named → CallPlan
 open_named f (Refused answer) = Set f answer
 open_named f (Whole name) = look_if_free f name (lowest_free f.slots 0)
@@ -101,6 +105,7 @@ open_plan data_at m f name flags = elim (flags % 4 == 0) [ true ↦ open_named f
 
 -- ---- close
 
+-- a descriptor is freed
 abbrev pub close_plan : Descriptors → ℕ → Descriptor → CallPlan
 close_plan f d Free = Set f EBADF
 close_plan f d other = Set (with_slot f d Free) (pos 0)
@@ -125,10 +130,12 @@ abbrev pub moved_to : Descriptors → ℕ → Name → ℕ → ℤ → CallPlan
 moved_to f d name size (pos n) = elim (nat_lt n (2 ^ 56)) [ true ↦ Set (with_slot f d (File name size n)) (pos n) | false ↦ Set f EINVAL ]
 moved_to f d name size (negsuc n) = Set f EINVAL
 
+-- by where the distance counts from
 abbrev pub seek_from : Descriptors → ℕ → Name → ℕ → ℕ → Option ℕ → CallPlan
 seek_from f d name size distance None = Set f EINVAL
 seek_from f d name size distance (Some base) = moved_to f d name size (pos base +ℤ signed distance)
 
+-- an offset is moved
 abbrev pub seek_plan : Descriptors → ℕ → Descriptor → ℕ → ℕ → CallPlan
 seek_plan f d Free distance whence = Set f EBADF
 seek_plan f d (File name size offset) distance whence = seek_from f d name size distance (seek_base offset size whence)
@@ -140,13 +147,16 @@ seek_plan f d other distance whence = Set f ESPIPE
 abbrev pub read_count : ℕ → ℕ → ℕ → ℕ
 read_count asked size offset = min asked (min 65536 (size - offset))
 
+-- a read whose bytes are data (true), or one that is refused
 abbrev pub read_if : Bool → Descriptors → ℕ → ReadSpot → ℕ → CallPlan
 read_if true f d spot a = Read d spot a
 read_if false f d spot a = Set f EFAULT
 
+-- a read into the bytes from an address on
 abbrev pub read_spot : (ℕ → Bool) → Descriptors → ℕ → ℕ → ReadSpot → CallPlan
 read_spot data_at f d a spot = read_if (all_from data_at a spot.count) f d spot a
 
+-- a read of a descriptor
 abbrev pub read_plan : (ℕ → Bool) → Descriptors → ℕ → Descriptor → ℕ → ℕ → CallPlan
 read_plan data_at f d (File name size offset) a asked = read_spot data_at f d a (record { name = name; offset = offset; count = read_count asked size offset })
 read_plan data_at f d other a asked = Set f EBADF
@@ -159,9 +169,11 @@ put_if false f to_out a n = Set f EFAULT
 put_if true f to_out a zero = Set f (pos 0)
 put_if true f to_out a (suc n) = Write to_out a (suc n)
 
+-- a write of bytes that must be data
 abbrev pub put_plan : (ℕ → Bool) → Descriptors → Bool → ℕ → ℕ → CallPlan
 put_plan data_at f to_out a n = put_if (all_from data_at a n) f to_out a n
 
+-- a write to a descriptor
 abbrev pub write_plan : (ℕ → Bool) → Descriptors → Descriptor → ℕ → ℕ → CallPlan
 write_plan data_at f Out a asked = put_plan data_at f true a (min asked 65536)
 write_plan data_at f Err a asked = put_plan data_at f false a (min asked 65536)
@@ -169,12 +181,14 @@ write_plan data_at f other a asked = Set f EBADF
 
 -- ---- brk
 
+-- the break is moved within its bounds, and else stays
 abbrev pub break_plan : Descriptors → ℕ → CallPlan
 break_plan f to =
     elim (nat_le f.break_start to && nat_le to f.break_most) [ true ↦ Set (record f { break_at = to }) (pos to) | false ↦ Set f (pos f.break_at) ]
 
 -- ---- the table
 
+-- the plan of each call
 abbrev pub plan_by : (ℕ → Bool) → Memory → Descriptors → CallKind → ℕ → ℕ → ℕ → CallPlan
 plan_by data_at m f Open x10 x11 x12 = open_plan data_at m f x10 x11
 plan_by data_at m f OpenAt x10 x11 x12 = open_plan data_at m f x11 x12
@@ -192,6 +206,7 @@ call_plan data_at m f number x10 x11 x12 = plan_by data_at m f (kind_of number) 
 
 -- ---- what the outside's answer makes of the descriptors
 
+-- by the lowest free descriptor
 abbrev pub opened_at : Descriptors → Name → ℕ → Option ℕ → Descriptors × ℤ
 opened_at f name size None = (f, EMFILE)
 opened_at f name size (Some d) = (with_slot f d (File name size 0), pos d)
@@ -201,6 +216,7 @@ abbrev pub opened : Descriptors → Name → Option ℕ → Descriptors × ℤ
 opened f name None = (f, ENOENT)
 opened f name (Some size) = opened_at f name size (lowest_free f.slots 0)
 
+-- a descriptor whose offset has moved on by so many bytes
 abbrev pub advanced : Descriptor → ℕ → Descriptor
 advanced (File name size offset) n = File name size (offset + n)
 advanced other n = other

@@ -2,6 +2,7 @@
 use Rattle.std.specs.Prelude.{ℕ, zero, suc, ◌+◌, ◌<◌, ℤ, negsuc, List, [], ◌∷◌, replicate, slice_get, slice_set, Option, Some, None, unwrap_or}
 use Rattle.spec_base.specs.Files.{Name}
 
+-- what a descriptor stands for
 pub data Descriptor : Type 0 where
   Free : Descriptor
   Null : Descriptor
@@ -20,6 +21,7 @@ pub record Descriptors : Type 0 where
 abbrev pub slot : Descriptors → ℕ → Descriptor
 slot f d = unwrap_or (slice_get f.slots d) Free
 
+-- the descriptors after one was set
 abbrev pub with_slot : Descriptors → ℕ → Descriptor → Descriptors
 with_slot f d x = record f { slots = slice_set f.slots d x }
 

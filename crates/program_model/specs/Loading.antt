@@ -19,9 +19,11 @@ pub record Executable : Type 0 where
 
 -- ---- the loaded bytes
 
+-- a memory of zeros
 abbrev pub no_bytes : Memory
 no_bytes a = 0
 
+-- the parts of a file, written in order
 abbrev pub with_parts : Memory → List (ℕ × List ℕ) → Memory
 with_parts m [] = m
 with_parts m (part ∷ parts) = with_parts (written m part.0 part.1) parts
@@ -48,9 +50,11 @@ arguments_start l arguments = range_end l.version - length (argument_bytes argum
 
 -- ---- the stack: the count of the arguments, their addresses, and four words of 0
 
+-- the words that stand from x2 on
 abbrev pub stack_words : Layout → List (List ℕ) → List ℕ
 stack_words l arguments = length arguments ∷ (argument_addresses (arguments_start l arguments) arguments ++ 0 ∷ 0 ∷ 0 ∷ 0 ∷ [])
 
+-- words of 64 bits as bytes
 abbrev pub bytes_of_words : List ℕ → List ℕ
 bytes_of_words [] = []
 bytes_of_words (word ∷ words) = bytes_of 8 word ++ bytes_of_words words
@@ -61,14 +65,17 @@ stack_start l arguments = (arguments_start l arguments - 8 * (length arguments +
 
 -- ---- the start
 
+-- the memory in which a program starts
 abbrev pub start_memory : Executable → List (List ℕ) → Memory
 start_memory e arguments =
     written (written (data_of e.layout (with_parts no_bytes e.parts)) (arguments_start e.layout arguments) (argument_bytes arguments))
     (stack_start e.layout arguments) (bytes_of_words (stack_words e.layout arguments))
 
+-- an output before its first put
 abbrev pub nothing_put : Output
 nothing_put = record { bytes = []; puts = [] }
 
+-- the state in which a program starts
 abbrev pub start_state : Executable → List (List ℕ) → State
 start_state e arguments =
     record {

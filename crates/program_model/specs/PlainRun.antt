@@ -48,6 +48,7 @@ pub record Image : Type 0 where
   pub words : List ℕ
   pub start : State
 
+-- the instructions of the text
 abbrev pub text_of : Image → List Instr
 text_of p = map instr_of p.words
 
@@ -74,6 +75,7 @@ put o offered taken = record { bytes = o.bytes ++ take taken offered; puts = o.p
 abbrev pub size_in : Files → Name → Option ℕ
 size_in files name = option_map length (files name)
 
+-- a look was answered
 abbrev pub after_look : State → Descriptors × ℤ → State
 after_look s r = answered (record s { files = r.0 }) r.1
 
@@ -108,9 +110,11 @@ pub data Step : Type 0 where
   Went : State → Step
   Traps : Trap → Step
 
+-- a step that performs a call
 abbrev pub call_step : Files → Taken → CallPlan → State → Step
 call_step files t plan s = Went (performed files (taken_by t plan s) plan s)
 
+-- a step by the effect of its instruction
 abbrev pub after_effect : Image → Files → Taken → State → Effect → Step
 after_effect p files t s (Next rs pc) = Went (record s { registers = rs; pc = pc })
 after_effect p files t s (Stored a width v) = Went (record s { memory = stored s.memory a width v; pc = after s.pc })
@@ -118,17 +122,21 @@ after_effect p files t s (Trapped cause) = Traps cause
 after_effect p files t s Called = call_step files t (plan_of p.layout s) s
 after_effect p files t s (Gated _) = Traps trap.Illegal
 
+-- a step at an instruction, or with none to fetch
 abbrev pub at_word : Image → Files → Taken → State → Option Instr → Step
 at_word p files t s None = Traps trap.FetchOut
 at_word p files t s (Some i) = after_effect p files t s (effect Plain (data_rights p.layout) s.memory s.registers s.pc i)
 
+-- a step from a state
 abbrev pub next : Image → Files → Taken → State → Step
 next p files t s = at_word p files t s (fetched (text_of p) p.layout.text_start s.pc)
 
+-- the state of a step that completes
 abbrev pub completed : Step → Option State
 completed (Went s) = Some s
 completed (Traps cause) = None
 
+-- none where the program has exited
 abbrev pub next_unless : Option ℕ → Image → Files → Taken → State → Option State
 next_unless (Some code) p files t s = None
 next_unless None p files t s = completed (next p files t s)
@@ -154,13 +162,16 @@ pub data End : Type 0 where
   TrapsAt : Trap → (pc : ℕ) → End
   GoesOn : End
 
+-- an end by a trap
 abbrev pub end_of_step : Step → ℕ → End
 end_of_step (Went s) pc = GoesOn
 end_of_step (Traps cause) pc = TrapsAt cause pc
 
+-- an end by exit or by a trap
 abbrev pub end_unless : Option ℕ → Image → Files → Taken → State → End
 end_unless (Some code) p files t s = Exited code
 end_unless None p files t s = end_of_step (next p files t s) s.pc
 
+-- how a program ends in a state
 abbrev pub end_of : Image → Files → Taken → State → End
 end_of p files t s = end_unless s.exited p files t s

@@ -24,6 +24,7 @@ pub record IsFollowing (r : Run) : Type 0 where
   pub ahead : IsTrue r.since.ahead
   pub whole : IsTrue r.since.whole
 
+-- whether an instruction is a call
 abbrev pub is_ecall : Option Instr → Bool
 is_ecall (Some Ecall) = true
 is_ecall _ = false
@@ -38,6 +39,7 @@ hinted_up_to w r = if is_behind_call w r.shadow.pc then r.since.shadow + 1 else 
 
 -- ---- the hints are the next reads
 
+-- before the horizon the hints are the next reads, up to where the shadow has come
 abbrev pub HintsAreReads : Type 0
 HintsAreReads =
     (w : World) → Accepted w → (ms : Moves) → let r = run w ms in IsFollowing r → IsTrue (before_horizon w r r.since.shadow) →
@@ -45,12 +47,14 @@ HintsAreReads =
 
 -- ---- the shadow's words are bounded
 
+-- whether the shadow is parked
 abbrev pub is_parked : ShadowState → Bool
 is_parked (Parked cause) = true
 is_parked Never = false
 is_parked Running = false
 is_parked Stopped = false
 
+-- a shadow that is not parked executes a bounded number of words for each region and instruction
 abbrev pub WordsBounded : Type 0
 WordsBounded =
     (w : World) → Accepted w → (ms : Moves) → let r = run w ms in 0 < r.restarts →
@@ -66,6 +70,7 @@ pub record StandsFor (w : World) (r : Run) (open_register open_byte : ℕ → Bo
   pub files : r.shadow.files ≡ q.files
   pub bytes : (a : ℕ) → IsTrue (is_data w.image.layout a) → open_byte a ≡ false → shadowed r.shared r.own.memory a ≡ q.memory a
 
+-- before the horizon the shadow at word 1 of a block stands for the plain state, outside the unfilled bytes
 abbrev pub ShadowFollows : Type 0
 ShadowFollows =
     (w : World) → Accepted w → (ms : Moves) → let r = run w ms in IsFollowing r → IsTrue (before_horizon w r r.since.shadow) →
@@ -81,6 +86,7 @@ pub record FollowsUntilUse (w : World) (r : Run) : Type 0 where
       IsTrue (is_arrival w.image.layout r.shadow.pc) →
       (q : State) × (from_restart w r r.since.shadow ≡ Some q) × StandsFor w r (marks w r r.since.shadow).registers (marks w r r.since.shadow).bytes q
 
+-- before the first use the hints are the next reads, and the shadow stands for the plain state outside the marks
 abbrev pub HintsUntilUse : Type 0
 HintsUntilUse =
     (w : World) → Accepted w → (ms : Moves) → let r = run w ms in IsFollowing r → IsTrue (before_use w r r.since.shadow) → FollowsUntilUse w r

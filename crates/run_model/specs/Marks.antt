@@ -11,6 +11,7 @@ use Rattle.program_model.specs.PlainRun.{State, Image}
 use Rattle.run_model.specs.Run.{World, Run}
 use Rattle.run_model.specs.Restarts.{from_restart, instr_at, Action, Reads, TakesName, Loads, Stores, Other, call_action, is_filled_number, nothing, any_from, read_leaves}
 
+-- which registers and which bytes are marked
 pub record Marks : Type 0 where
   pub registers : ℕ → Bool
   pub bytes : ℕ → Bool
@@ -26,6 +27,7 @@ abbrev pub with_mark : (ℕ → Bool) → ℕ → Bool → ℕ → Bool
 with_mark marks zero marked = marks
 with_mark marks (suc n) marked = λ k. elim (k == suc n) [ true ↦ marked | false ↦ marks k ]
 
+-- rd is marked or cleared
 abbrev pub mark_register : Marks → ℕ → Bool → Marks
 mark_register m rd marked = record m { registers = with_mark m.registers rd marked }
 
@@ -53,6 +55,7 @@ marks_after l filled s (Some (Jalr rd rs1 imm)) m = mark_register m rd false
 marks_after l filled s (Some Ecall) m = marks_after_call filled m (call_action l s)
 marks_after l filled s _ m = m
 
+-- the marks after the instruction of a state, if there is one
 abbrev pub marks_after_some : Image → Bool → Option State → Marks → Marks
 marks_after_some p filled None m = m
 marks_after_some p filled (Some s) m = marks_after p.layout filled s (instr_at p s) m
@@ -62,6 +65,7 @@ unfoldable pub marks_with : List ℕ → World → Run → ℕ → Marks
 marks_with numbers w r zero = no_marks
 marks_with numbers w r (suc i) = marks_after_some w.image (is_filled_number numbers (suc i)) (from_restart w r i) (marks_with numbers w r i)
 
+-- the marks after i instructions, by the reads that were filled so far
 abbrev pub marks : World → Run → ℕ → Marks
 marks w r i = marks_with r.since.filled w r i
 
@@ -81,6 +85,7 @@ is_use l s (Some (Branch op rs1 rs2 imm)) m = m.registers rs1 || m.registers rs2
 is_use l s (Some Ecall) m = (m.registers 10 || (m.registers 11 || (m.registers 12 || m.registers 17))) || name_is_marked m (call_action l s)
 is_use l s _ m = false
 
+-- whether the instruction of a state is a use
 abbrev pub some_use : Image → Option State → Marks → Bool
 some_use p None m = false
 some_use p (Some s) m = is_use p.layout s (instr_at p s) m
@@ -90,6 +95,7 @@ unfoldable pub before_use_with : List ℕ → World → Run → ℕ → Bool
 before_use_with numbers w r zero = true
 before_use_with numbers w r (suc i) = before_use_with numbers w r i && not (some_use w.image (from_restart w r i) (marks_with numbers w r i))
 
+-- the same by the reads that were filled so far
 abbrev pub before_use : World → Run → ℕ → Bool
 before_use w r i = before_use_with r.since.filled w r i
 

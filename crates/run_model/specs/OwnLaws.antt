@@ -18,6 +18,7 @@ use Rattle.run_model.specs.Restarts.{from_restart}
 
 -- ---- worlds
 
+-- each number is a byte
 abbrev pub AllBytes : List ℕ → Type 0
 AllBytes bytes = All (λ b. b < 256) bytes
 
@@ -62,11 +63,13 @@ pub record DoesAsPlain (w : World) (r : Run) : Type 0 where
   pub end : SameEnd r.end (end_of w.image w.files (puts_of r) state)
   pub goes_on : r.end ≡ None → state.exited ≡ None
 
+-- every run of a rewritten program does as the plain program
 abbrev pub Preserved : Type 0
 Preserved = (w : World) → Accepted w → (ms : Moves) → DoesAsPlain w (run w ms)
 
 -- ---- invisible shadow
 
+-- a move that only the shadow makes
 abbrev pub IsShadowMove : Move → Type 0
 IsShadowMove S = ⊤
 IsShadowMove T = ⊤
@@ -85,16 +88,19 @@ pub record OwnPart : Type 0 where
   pub done : ℕ
   pub end : Option RunEnd
 
+-- the program's part of a run
 abbrev pub own_part : Run → OwnPart
 own_part r =
     record { own = r.own; site = r.site; view = r.view; page = r.own_page; asked = r.asked; stalled = r.stalled; gathered = r.gathered; done = r.own_done; end = r.end }
 
+-- whether the outside failed
 abbrev pub has_failed : Answer → Bool
 has_failed Failed = true
 has_failed Usual = false
 has_failed (Took count) = false
 has_failed Lost = false
 
+-- whether a call looks in the store
 abbrev pub is_look : CallPlan → Bool
 is_look (Look name) = true
 is_look (Set f answer) = false
@@ -113,16 +119,19 @@ pub record IsInvisible (w : World) (r : Run) (m : Move) (x : Answer) : Type 0 wh
   pub hears_failure_alone : (y : Answer) → has_failed x ≡ has_failed y → step w r (m, x) ≡ step w r (m, y)
   pub hears_looks_alone : (y : Answer) → asks_for_look w r ≡ false → step w r (m, x) ≡ step w r (m, y)
 
+-- every move of the shadow is invisible
 abbrev pub ShadowIsInvisible : Type 0
 ShadowIsInvisible = (w : World) (r : Run) (m : Move) (x : Answer) → IsShadowMove m → IsInvisible w r m x
 
 -- ---- bounded regions
 
+-- no run has more regions in use than its layout says
 abbrev pub RegionsBounded : Type 0
 RegionsBounded = (w : World) → Accepted w → (ms : Moves) → slots_in_use (run w ms).shared ≤ w.image.layout.regions
 
 -- ---- progress
 
+-- an own move is among them
 abbrev pub HasOwn : Moves → Type 0
 HasOwn [] = ⊥
 HasOwn ((O, x) ∷ ms) = ⊤
@@ -130,6 +139,7 @@ HasOwn ((S, x) ∷ ms) = HasOwn ms
 HasOwn ((T, x) ∷ ms) = HasOwn ms
 HasOwn ((D, x) ∷ ms) = HasOwn ms
 
+-- a fetch is among them
 abbrev pub HasFetch : Moves → Type 0
 HasFetch [] = ⊥
 HasFetch ((D, x) ∷ ms) = ⊤
@@ -158,6 +168,7 @@ pub record OwnIs (r : Run) (q : State) : Type 0 where
   pub exited : r.own.exited ≡ q.exited
   pub place : r.view ≡ Program → (r.own.registers ≡ q.registers) × (r.own.pc ≡ q.pc)
 
+-- while each put is whole, the own hart does as the run from the restart
 abbrev pub OwnFollows : Type 0
 OwnFollows =
     (w : World) → Accepted w → (ms : Moves) → let r = run w ms in 0 < r.restarts → IsTrue r.since.whole →

@@ -31,12 +31,15 @@ use Rattle.run_model.specs.Run.{World, Run, RunEnd, Exits, Traps, StoreFailed, S
 abbrev pub stays_behind : ℕ → ℕ → ℕ → Bool
 stays_behind restarts own shadow = (restarts == 0) || nat_le own shadow
 
+-- the count since the restart
 abbrev pub counted : ℕ → Since → Since
 counted restarts s = record s { own = s.own + 1; ahead = s.ahead && stays_behind restarts (s.own + 1) s.shadow }
 
+-- one more instruction is completed, which leaves this state
 abbrev pub done_one : Run → State → Run
 done_one r own = record r { own = own; own_done = r.own_done + 1; since = counted r.restarts r.since }
 
+-- the run ends so
 abbrev pub ended : Run → RunEnd → List Note → Run
 ended r e notes = record r { end = Some e; notes = notes }
 
@@ -46,6 +49,7 @@ ended r e notes = record r { end = Some e; notes = notes }
 abbrev pub entered : Run → Run
 entered r = record r { site = r.own.pc; at_gate = r.own; view = Stub; asked = false; own = record r.own { pc = stub_start } }
 
+-- what the effect of a program's word does
 abbrev pub program_after : Run → Effect → Run
 program_after r (Next rs pc) = done_one r (record r.own { registers = rs; pc = pc })
 program_after r (Stored a width v) = done_one r (record r.own { memory = stored r.own.memory a width v; pc = after r.own.pc })
@@ -53,10 +57,12 @@ program_after r (Trapped cause) = ended r (Traps cause r.own.pc) (note.Trap caus
 program_after r (Gated _) = entered r
 program_after r Called = r
 
+-- a word of the program, or none to fetch
 abbrev pub program_at : World → Run → Option Instr → Run
 program_at w r None = ended r (Traps trap.FetchOut r.own.pc) (note.Trap trap.FetchOut r.own.pc ∷ [])
 program_at w r (Some i) = program_after r (effect Program (data_rights w.image.layout) r.own.memory r.own.registers r.own.pc i)
 
+-- the word at pc
 abbrev pub program_step : World → Run → Run
 program_step w r = program_at w r (fetched (rewritten_text w) w.image.layout.text_start r.own.pc)
 
@@ -77,6 +83,7 @@ taken_in Usual n = n
 taken_in Failed n = n
 taken_in Lost n = n
 
+-- whether each put was taken whole
 abbrev pub put_whole : Bool → Run → Run
 put_whole all r = record r { since = record r.since { whole = r.since.whole && all } }
 
@@ -84,10 +91,12 @@ put_whole all r = record r { since = record r.since { whole = r.since.whole && a
 abbrev pub with_text : ℕ → ℕ → ℕ → Run → Run
 with_text k a n r = record r { text = take k (bytes_at r.own.memory a n) }
 
+-- how a trace names the sinks
 abbrev pub sink_number : Bool → ℕ
 sink_number true = 1
 sink_number false = 2
 
+-- a put was taken
 abbrev pub write_done : World → ℕ → Bool → ℕ → ℕ → Run → Run
 write_done w k to_out a n r =
     call_done w k (Write to_out a n) (note.Text (sink_number to_out) k ∷ call_note r.own (pos k) ∷ [])
@@ -98,10 +107,12 @@ abbrev pub read_notes : Bool → State → ReadSpot → List Note
 read_notes true s spot = call_note s (pos spot.count) ∷ []
 read_notes false s spot = note.Match spot ∷ call_note s (pos spot.count) ∷ []
 
+-- a read that asked for no restart is counted
 abbrev pub match_count : Bool → ℕ → ℕ
 match_count true n = n
 match_count false n = n + 1
 
+-- a stall tells the block
 abbrev pub stall_notes : Option BlockSpot → List Note
 stall_notes None = []
 stall_notes (Some spot) = note.Stall spot ∷ []
@@ -112,18 +123,22 @@ read_on true w d spot a g r = record r { cache = g.cache; gathered = g.had; stal
 read_on false w d spot a g r =
     call_done w 0 (Read d spot a) (read_notes r.asked r.own spot) (record r { cache = g.cache; matched = match_count r.asked r.matched })
 
+-- a read with what was gathered
 abbrev pub read_step : World → ℕ → ReadSpot → ℕ → Gathered → Run → Run
 read_step w d spot a g r = read_on g.waits w d spot a g r
 
+-- a look was answered, or failed
 abbrev pub look_done : World → Answer → Run → List ℕ → Run
 look_done w Failed r name = ended r StoreFailed (note.Fault ∷ [])
 look_done w _ r name =
     call_done w 0 (Look name) (call_note r.own (opened r.own.files name (size_in w.files name)).1 ∷ []) r
 
+-- a put was answered, or failed
 abbrev pub write_step : World → Answer → Run → Bool → ℕ → ℕ → Run
 write_step w Failed r to_out a n = ended r SinkFailed []
 write_step w x r to_out a n = write_done w (taken_in x n) to_out a n r
 
+-- a planned call is performed, or waits
 abbrev pub own_call_step : World → Answer → Run → CallPlan → Run
 own_call_step w x r (Set f answer) = call_done w 0 (Set f answer) (call_note r.own answer ∷ []) r
 own_call_step w x r (Look name) = look_done w x r name
@@ -141,6 +156,7 @@ own_wrote r rd v = record r { own = record r.own { registers = with_reg r.own.re
 abbrev pub since_restart : Run → Since
 since_restart r = record { own = 0; shadow = 0; ahead = true; whole = true; hints = []; filled = []; origin = Some r.at_gate; words = 0; regions = slots_in_use r.shared }
 
+-- a restart tells the read that asked for it
 abbrev pub restart_notes : CallPlan → List Note
 restart_notes (Read d spot a) = note.Restart spot ∷ []
 restart_notes _ = []
@@ -157,6 +173,7 @@ restarted w r =
       notes = restart_notes (plan_of w.image.layout r.own);
     }
 
+-- a gate instruction of the stub
 abbrev pub gate_step : World → Answer → Run → Instr → Run
 gate_step w x r Hleave = record r { view = Program; own = record r.own { pc = after r.site } }
 gate_step w x r (Hsite rd) = own_wrote r rd r.site
@@ -172,6 +189,7 @@ abbrev pub stub_stores : Bool → Run → ℕ → ℕ → ℕ → Run
 stub_stores true r a width v = record r { own_page = stored r.own_page a width v; own = record r.own { pc = after r.own.pc } }
 stub_stores false r a width v = record r { shared = stored r.shared a width v; own = record r.own { pc = after r.own.pc } }
 
+-- what the effect of a stub's word does
 abbrev pub stub_after : World → Answer → Run → Effect → Run
 stub_after w x r (Next rs pc) = record r { own = record r.own { registers = rs; pc = pc } }
 stub_after w x r (Stored a width v) = stub_stores (in_private a) r a width v
@@ -179,24 +197,29 @@ stub_after w x r (Trapped cause) = ended r (Traps cause r.own.pc) (note.Trap cau
 stub_after w x r (Gated i) = gate_step w x r i
 stub_after w x r Called = r
 
+-- a word of the stub, or none to fetch
 abbrev pub stub_at : World → Answer → Run → Option Instr → Run
 stub_at w x r None = ended r (Traps trap.FetchOut r.own.pc) (note.Trap trap.FetchOut r.own.pc ∷ [])
 stub_at w x r (Some i) = stub_after w x r (effect Stub stub_rights (stub_sees r.shared r.own_page) r.own.registers r.own.pc i)
 
+-- the word at pc
 abbrev pub stub_step : World → Answer → Run → Run
 stub_step w x r = stub_at w x r (fetched stub stub_start r.own.pc)
 
 -- ---- one word, unless the hart is stalled
 
+-- a word of the program or of the stub
 abbrev pub own_in : View → World → Answer → Run → Run
 own_in Program w x r = program_step w r
 own_in Stub w x r = stub_step w x r
 own_in Plain w x r = r
 own_in Shadow w x r = r
 
+-- a hart that waits does nothing
 abbrev pub own_unless : Bool → World → Answer → Run → Run
 own_unless true w x r = r
 own_unless false w x r = own_in r.view w x r
 
+-- a move of the own hart
 abbrev pub own_step : World → Answer → Run → Run
 own_step w x r = own_unless r.stalled w x r

@@ -28,6 +28,7 @@ instr_at p s = fetched (text_of p) p.layout.text_start s.pc
 
 -- ---- what an instruction does to memory and files
 
+-- loads, stores, a read into memory, a name that is read, or none of these
 pub data Action : Type 0 where
   Loads : (address width : ℕ) → Action
   Stores : (address width : ℕ) → Action
@@ -46,15 +47,18 @@ abbrev pub name_action : Bool → Layout → State → ℕ → Action
 name_action true l s a = TakesName a (name_length (is_data l) s.memory a 256)
 name_action false l s a = Other
 
+-- what a call does
 abbrev pub action_by : CallKind → Layout → State → CallPlan → Action
 action_by Open l s plan = name_action (reg s.registers 11 % 4 == 0) l s (reg s.registers 10)
 action_by OpenAt l s plan = name_action (reg s.registers 12 % 4 == 0) l s (reg s.registers 11)
 action_by _ l s (Read d spot a) = Reads spot a
 action_by _ l s _ = Other
 
+-- what the call in the registers does
 abbrev pub call_action : Layout → State → Action
 call_action l s = action_by (kind_of (reg s.registers 17)) l s (plan_of l s)
 
+-- what an instruction does
 abbrev pub instr_action : Layout → State → Option Instr → Action
 instr_action l s (Some (Load op rd rs1 imm)) = Loads (plus_int (reg s.registers rs1) imm) (load_width op)
 instr_action l s (Some (Store op rs1 rs2 imm)) = Stores (plus_int (reg s.registers rs1) imm) (store_width op)
@@ -65,6 +69,7 @@ instr_action l s _ = Other
 abbrev pub state_action : Image → State → Action
 state_action p s = instr_action p.layout s (instr_at p s)
 
+-- what the instruction of a state does, if there is one
 abbrev pub some_action : Image → Option State → Action
 some_action p None = Other
 some_action p (Some s) = state_action p s
@@ -80,6 +85,7 @@ action w r (suc i) = some_action w.image (from_restart w r i)
 abbrev pub is_filled_number : List ℕ → ℕ → Bool
 is_filled_number numbers i = list_any (λ k. k == i) numbers
 
+-- whether a byte is unfilled behind a read: one of its own bytes (true), or another
 abbrev pub read_leaves : Bool → Bool → Bool → Bool
 read_leaves true filled before = not filled
 read_leaves false filled before = before
@@ -101,15 +107,18 @@ unfoldable pub unfilled_with : List ℕ → World → Run → ℕ → ℕ → Bo
 unfilled_with numbers w r zero = nothing
 unfilled_with numbers w r (suc i) = unfilled_by (unfilled_with numbers w r i) (action w r (suc i)) (is_filled_number numbers (suc i))
 
+-- the same by the reads that were filled so far
 abbrev pub unfilled : World → Run → ℕ → ℕ → Bool
 unfilled w r i = unfilled_with r.since.filled w r i
 
 -- ---- the horizon: the first instruction that loads an unfilled byte, or takes one as part of a name
 
+-- a test holds at one of the n addresses from a on
 unfoldable pub any_from : (ℕ → Bool) → ℕ → ℕ → Bool
 any_from test a zero = false
 any_from test a (suc n) = test a || any_from test (a + 1) n
 
+-- whether an action loads one of these bytes, or takes one as part of a name
 abbrev pub touches : (ℕ → Bool) → Action → Bool
 touches bytes (Loads a width) = any_from bytes a width
 touches bytes (TakesName a n) = any_from bytes a n
@@ -124,6 +133,7 @@ before_horizon w r (suc i) = before_horizon w r i && not (touches (unfilled w r 
 
 -- ---- the next reads
 
+-- the read in an action, if it is one
 abbrev pub read_in : Action → List ReadSpot
 read_in (Reads spot a) = spot ∷ []
 read_in (Loads a width) = []

@@ -20,6 +20,7 @@ use Rattle.code_model.specs.Patch.{patched_instr, patched_word}
 
 -- ---- what doesn't change in a run: the original program, and the files
 
+-- the program and the files
 pub record World : Type 0 where
   pub image : Image
   pub files : Files
@@ -28,11 +29,13 @@ pub record World : Type 0 where
 abbrev pub rewritten_text : World → List Instr
 rewritten_text w = map patched_instr (text_of w.image)
 
+-- the same as words
 abbrev pub rewritten_words : World → List ℕ
 rewritten_words w = map patched_word w.image.words
 
 -- ---- how a run ends
 
+-- by an exit, by a trap, or by a fault of the store or of a sink
 pub data RunEnd : Type 0 where
   Exits : (code : ℕ) → RunEnd
   Traps : Trap → (pc : ℕ) → RunEnd
@@ -41,6 +44,7 @@ pub data RunEnd : Type 0 where
 
 -- ---- what the outside answered in a move: what files and sinks say, a put that took so many bytes, a failure, or a block that is lost for want of memory
 
+-- one of these for each move
 pub data Answer : Type 0 where
   Usual : Answer
   Took : (count : ℕ) → Answer
@@ -49,6 +53,7 @@ pub data Answer : Type 0 where
 
 -- ---- the shadow's hart
 
+-- its registers, pc and descriptors, and whether it runs
 pub record ShadowHart : Type 0 where
   pub registers : Registers
   pub pc : ℕ
@@ -57,6 +62,7 @@ pub record ShadowHart : Type 0 where
 
 -- ---- what is known since the last restart
 
+-- counts and lists that begin anew at each restart
 pub record Since : Type 0 where
   -- completed own instructions, the restarting read first
   pub own : ℕ
@@ -82,6 +88,7 @@ since_start = record { own = 0; shadow = 0; ahead = true; whole = true; hints = 
 
 -- ---- the run
 
+-- all of a rewritten program while it runs
 pub record Run : Type 0 where
   -- the own hart, its memory, files and outputs: a plain state
   pub own : State
@@ -117,6 +124,7 @@ pub record Run : Type 0 where
   pub notes : List Note
   pub text : List ℕ
 
+-- a part that nothing was stored to
 abbrev pub zeros : Memory
 zeros a = 0
 

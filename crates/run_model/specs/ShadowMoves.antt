@@ -37,6 +37,7 @@ block_word w pc =
     option_and_then (λ words. slice_get words ((pc % 64) / 4))
     (slice_get (blocks_from w.image.layout w.image.layout.text_start (text_of w.image)) ((pc - shadow_start) / 64))
 
+-- in the helpers (true), else in a block (true), else nowhere
 abbrev pub fetch_by : Bool → Bool → World → ℕ → Option Instr
 fetch_by true in_blocks w pc = fetched (helpers w.image.layout) helpers_start pc
 fetch_by false true w pc = block_word w pc
@@ -57,18 +58,22 @@ is_call_word _ = false
 
 -- ---- states
 
+-- whether the shadow runs
 abbrev pub is_running : ShadowState → Bool
 is_running Running = true
 is_running Never = false
 is_running Stopped = false
 is_running (Parked cause) = false
 
+-- the shadow parks, and this is told
 abbrev pub parked_with : Run → Park → List Note → Run
 parked_with r cause notes = record r { shadow = record r.shadow { state = Parked cause }; notes = notes }
 
+-- the shadow parks
 abbrev pub parked : Run → Park → Run
 parked r cause = parked_with r cause (note.Park cause ∷ [])
 
+-- the shadow goes on with these registers at this pc
 abbrev pub shadow_at : Run → Registers → ℕ → Run
 shadow_at r rs pc = record r { shadow = record r.shadow { registers = rs; pc = pc } }
 
@@ -77,6 +82,7 @@ abbrev pub arrived_if : Bool → Run → Run
 arrived_if true r = record r { since = record r.since { shadow = r.since.shadow + 1 } }
 arrived_if false r = r
 
+-- the shadow arrives at word 1 of a block
 abbrev pub arrived : Layout → Run → Run
 arrived l r = arrived_if (is_running r.shadow.state && is_arrival l r.shadow.pc) r
 
@@ -105,6 +111,7 @@ hint_given false spot r =
 
 -- ---- a read that is filled
 
+-- each block is cached
 abbrev pub all_held : List BlockSpot → List BlockSpot → Bool
 all_held cached [] = true
 all_held cached (spot ∷ spots) = holds cached spot && all_held cached spots
@@ -122,6 +129,7 @@ is_filled w r spot a (suc n) = all_held r.cache.cached (blocks_of spot) && regio
 abbrev pub filled_copies : World → Run → ℕ → List ℕ → Memory
 filled_copies w r a bytes = set_in_copies (with_copies w.image.layout (rewritten_words w) r.own.memory r.shared (new_regions r.shared a (length bytes - 1))) a bytes
 
+-- a read is filled (true), or left unfilled
 abbrev pub fill_if : Bool → World → ReadSpot → ℕ → Run → Run
 fill_if false w spot a r = r
 fill_if true w spot a r =
@@ -131,15 +139,18 @@ fill_if true w spot a r =
       notes = r.notes ++ note.Fill spot ∷ [];
     }
 
+-- a read is filled where that can be
 abbrev pub fill : World → ReadSpot → ℕ → Run → Run
 fill w spot a r = fill_if (is_filled w r spot a spot.count) w spot a r
 
 -- ---- HCALL 0 and HCALL 1 of the shadow
 
+-- a look was answered, or failed
 abbrev pub look_assumed : World → Answer → Run → List ℕ → Run
 look_assumed w Failed r name = parked r park.Store
 look_assumed w _ r name = assumed_with r (opened r.shadow.files name (size_in w.files name))
 
+-- a planned call is assumed
 abbrev pub assumed : World → Answer → Run → Bool → CallPlan → Run
 assumed w x r unhinted (Set f answer) = assumed_with r (f, answer)
 assumed w x r unhinted (Look name) = look_assumed w x r name
@@ -147,6 +158,7 @@ assumed w x r unhinted (Read d spot a) = assumed_with (fill w spot a (hint_given
 assumed w x r unhinted (Write to_out a n) = assumed_with r (r.shadow.files, pos n)
 assumed w x r unhinted (Exit code) = parked r park.Exit
 
+-- a gate instruction of the shadow
 abbrev pub shadow_gate : World → Answer → Run → Instr → Run
 shadow_gate w x r (Hkey rd) = shadow_at r (with_reg r.shadow.registers rd (key_of (shadow_plan w r))) (after r.shadow.pc)
 shadow_gate w x r (Hcall unhinted) = assumed w x r unhinted (shadow_plan w r)
@@ -168,6 +180,7 @@ shadow_after w x r (Trapped cause) = parked r park.Fault
 shadow_after w x r (Gated i) = shadow_gate w x r i
 shadow_after w x r Called = r
 
+-- a word of the shadow, or none to fetch
 abbrev pub shadow_at_word : World → Answer → Run → Option Instr → Run
 shadow_at_word w x r None = parked r park.Fault
 shadow_at_word w x r (Some i) =
@@ -178,6 +191,7 @@ shadow_at_word w x r (Some i) =
 abbrev pub word_counted : Run → Run
 word_counted r = record r { since = record r.since { words = r.since.words + 1 }; regions_most = max r.regions_most (slots_in_use r.shared) }
 
+-- only a running shadow moves
 abbrev pub shadow_in : ShadowState → World → Answer → Run → Run
 shadow_in Running w x r = word_counted (shadow_at_word w x r (fetch_shadow w r.shadow.pc))
 shadow_in Never w x r = r

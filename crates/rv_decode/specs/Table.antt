@@ -52,15 +52,19 @@ exactly word i = record { fits = λ w. w == word; make = λ _. i }
 abbrev pub upper : (ℕ → ℤ → Instr) → ℕ → Instr
 upper make w = make (rd w) (u_imm w)
 
+-- a branch with this comparison
 abbrev pub branch : BranchOp → ℕ → Instr
 branch op w = Branch op (rs1 w) (rs2 w) (b_imm w)
 
+-- a load of this kind
 abbrev pub load : LoadOp → ℕ → Instr
 load op w = Load op (rd w) (rs1 w) (i_imm w)
 
+-- a store of this width
 abbrev pub store : StoreOp → ℕ → Instr
 store op w = Store op (rs1 w) (rs2 w) (s_imm w)
 
+-- an operation on a register and an I-immediate
 abbrev pub imm : ImmOp → ℕ → Instr
 imm op w = OpImm op (rd w) (rs1 w) (i_imm w)
 
@@ -72,9 +76,11 @@ shift op w = OpImm op (rd w) (rs1 w) (pos (bits 25 20 w))
 abbrev pub shift_w : ImmWOp → ℕ → Instr
 shift_w op w = OpImmW op (rd w) (rs1 w) (pos (bits 24 20 w))
 
+-- an operation on two registers
 abbrev pub register_op : RegOp → ℕ → Instr
 register_op op w = Op op (rd w) (rs1 w) (rs2 w)
 
+-- an operation on the low words of two registers
 abbrev pub register_w_op : RegWOp → ℕ → Instr
 register_w_op op w = OpW op (rd w) (rs1 w) (rs2 w)
 

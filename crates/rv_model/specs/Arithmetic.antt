@@ -19,10 +19,11 @@ use Rattle.rv_decode.specs.declared.instr.BranchOp.TheVariants.{Beq, Bne, Blt, B
 
 -- ---- numbers with a sign
 
--- a number below 2^64 with its sign, and the 64 bits of a signed number that 64 bits can hold
+-- a number below 2^64 with its sign
 abbrev pub signed : ℕ → ℤ
 signed x = cast_signed w64 x
 
+-- the 64 bits of a signed number that 64 bits can hold
 abbrev pub unsigned : ℤ → ℕ
 unsigned z = cast_unsigned w64 z
 
@@ -30,6 +31,7 @@ unsigned z = cast_unsigned w64 z
 abbrev pub minus : ℕ → ℕ → ℕ
 minus x y = wrap (x + (2 ^ 64 - y))
 
+-- a truth value as 1 or 0
 abbrev pub bit : Bool → ℕ
 bit b = if b then 1 else 0
 
@@ -43,6 +45,7 @@ quotient x y = if y == 0 then 2 ^ 64 - 1 else unsigned (int_div (signed x) (sign
 abbrev pub remainder : ℕ → ℕ → ℕ
 remainder x y = if y == 0 then x else unsigned (int_rem (signed x) (signed y))
 
+-- what an operation makes of two registers
 abbrev pub reg_result : RegOp → ℕ → ℕ → ℕ
 reg_result Add x y = wrap (x + y)
 reg_result Sll x y = wrap (x * 2 ^ (y % 64))
@@ -73,12 +76,15 @@ low x = x % 2 ^ 32
 abbrev pub extended_word : ℕ → ℕ
 extended_word n = unsigned (cast_signed w32 n)
 
+-- division of low words
 abbrev pub word_quotient : ℕ → ℕ → ℕ
 word_quotient x y = if y == 0 then 2 ^ 64 - 1 else extended_word (cast_unsigned w32 (int_div (cast_signed w32 x) (cast_signed w32 y)))
 
+-- the remainder of low words
 abbrev pub word_remainder : ℕ → ℕ → ℕ
 word_remainder x y = if y == 0 then extended_word x else unsigned (int_rem (cast_signed w32 x) (cast_signed w32 y))
 
+-- what an operation makes of two low words
 abbrev pub reg_w_result : RegWOp → ℕ → ℕ → ℕ
 reg_w_result Addw x y = extended_word ((x + y) % 2 ^ 32)
 reg_w_result Sllw x y = extended_word (x * 2 ^ (y % 32) % 2 ^ 32)
@@ -93,6 +99,7 @@ reg_w_result Remuw x y = if low y == 0 then extended_word (low x) else extended_
 
 -- ---- an immediate is the second operand, its sign extended
 
+-- the operation on two registers that an immediate form stands for
 abbrev pub register_form : ImmOp → RegOp
 register_form Addi = Add
 register_form Slti = Slt
@@ -104,20 +111,24 @@ register_form Slli = Sll
 register_form Srli = Srl
 register_form Srai = Sra
 
+-- what an operation makes of a register and an immediate
 abbrev pub imm_result : ImmOp → ℕ → ℤ → ℕ
 imm_result op x imm = reg_result (register_form op) x (word_of_int imm)
 
+-- the same for low words
 abbrev pub register_w_form : ImmWOp → RegWOp
 register_w_form Addiw = Addw
 register_w_form Slliw = Sllw
 register_w_form Srliw = Srlw
 register_w_form Sraiw = Sraw
 
+-- what an operation makes of a low word and an immediate
 abbrev pub imm_w_result : ImmWOp → ℕ → ℤ → ℕ
 imm_w_result op x imm = reg_w_result (register_w_form op) x (word_of_int imm)
 
 -- ---- branches, loads and stores
 
+-- whether two registers compare so that the branch is taken
 abbrev pub is_taken : BranchOp → ℕ → ℕ → Bool
 is_taken Beq x y = x == y
 is_taken Bne x y = not (x == y)

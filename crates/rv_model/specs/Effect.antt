@@ -23,9 +23,11 @@ pub data Effect : Type 0 where
 
 -- ---- going on
 
+-- the address of the next word
 abbrev pub after : ℕ → ℕ
 after pc = wrap (pc + 4)
 
+-- goes on at the next word
 abbrev pub steps_on : Registers → ℕ → Effect
 steps_on rs pc = Next rs (after pc)
 
@@ -34,9 +36,11 @@ abbrev pub jump_if : Bool → Registers → ℕ → Effect
 jump_if true rs target = Next rs target
 jump_if false rs target = Trapped trap.Misaligned
 
+-- goes on at a target, or traps
 abbrev pub jumps_to : Registers → ℕ → Effect
 jumps_to rs target = jump_if (target % 4 == 0) rs target
 
+-- jumps where the branch is taken, and else goes on at the next word
 abbrev pub branch_if : Bool → Registers → ℕ → ℕ → Effect
 branch_if true rs pc target = jumps_to rs target
 branch_if false rs pc target = steps_on rs pc
@@ -47,30 +51,36 @@ even t = t - t % 2
 
 -- ---- loads and stores: first whether the address is a multiple of the width, then whether the view has each byte
 
+-- by the two tests: a trap, or rd with what was loaded
 abbrev pub load_if : Bool → Bool → Memory → LoadOp → Registers → ℕ → ℕ → ℕ → Effect
 load_if false inside m op rs pc rd a = Trapped trap.Misaligned
 load_if true false m op rs pc rd a = Trapped trap.LoadOut
 load_if true true m op rs pc rd a = steps_on (with_reg rs rd (extended op (loaded m a (load_width op)))) pc
 
+-- a load from an address
 abbrev pub load_effect : Rights → Memory → LoadOp → Registers → ℕ → ℕ → ℕ → Effect
 load_effect rights m op rs pc rd a = load_if (a % load_width op == 0) (all_from rights.load a (load_width op)) m op rs pc rd a
 
+-- by the two tests: a trap, or a store
 abbrev pub store_if : Bool → Bool → ℕ → ℕ → ℕ → Effect
 store_if false inside a width v = Trapped trap.Misaligned
 store_if true false a width v = Trapped trap.StoreOut
 store_if true true a width v = Stored a width v
 
+-- a store to an address
 abbrev pub store_effect : Rights → ℕ → ℕ → ℕ → Effect
 store_effect rights a width v = store_if (a % width == 0) (all_from rights.store a width) a width v
 
 -- ---- calls and gates, each in its view alone
 
+-- a call is made in the plain view alone
 abbrev pub call_effect : View → Effect
 call_effect Plain = Called
 call_effect Program = Trapped trap.Illegal
 call_effect Stub = Trapped trap.Illegal
 call_effect Shadow = Trapped trap.Illegal
 
+-- a gate instruction is met in its own view, and illegal in each other
 abbrev pub gate_effect : View → Instr → Effect
 gate_effect Program Hgate = Gated Hgate
 gate_effect Stub Hleave = Gated Hleave
@@ -86,6 +96,7 @@ gate_effect v i = Trapped trap.Illegal
 
 -- ---- the instructions
 
+-- what an instruction does in a view, at a pc
 abbrev pub effect : View → Rights → Memory → Registers → ℕ → Instr → Effect
 effect v r m rs pc (Lui rd imm) = steps_on (with_reg rs rd (word_of_int imm)) pc
 effect v r m rs pc (Auipc rd imm) = steps_on (with_reg rs rd (plus_int pc imm)) pc

@@ -2,6 +2,7 @@
 use Rattle.std.specs.Prelude.{ℕ, zero, suc, ◌+◌, ◌-◌, ◌*◌, Bool, true, false, ◌&&◌, List, [], ◌∷◌, length, get_or, nat_lt, nat_le}
 use Rattle.spec_base.specs.Word.{byte_of}
 
+-- a byte at each address
 abbrev pub Memory : Type 0
 Memory = ℕ → ℕ
 

@@ -1,6 +1,7 @@
 -- The integer registers by number, of which x0 is always 0 (RISC-V Unprivileged ISA 20191213, section 2.1).
 use Rattle.std.specs.Prelude.{ℕ, zero, suc, true, false, ◌==◌}
 
+-- a value for each number; that of 0 is never read
 abbrev pub Registers : Type 0
 Registers = ℕ → ℕ
 

@@ -12,6 +12,7 @@ use Rattle.rv_model.specs.Memory.{is_within}
 abbrev pub in_range : Layout → ℕ → Bool
 in_range l a = nat_le range_start a && nat_lt a (range_end l.version)
 
+-- the text of the program
 abbrev pub in_text : Layout → ℕ → Bool
 in_text l a = nat_le l.text_start a && nat_lt a l.text_end
 
@@ -37,6 +38,7 @@ in_table l = is_within table_start (range_end l.version / 64)
 abbrev pub list_bytes : Layout → ℕ
 list_bytes l = 8 + (4 * l.regions + 4) / 8 * 8
 
+-- the region list
 abbrev pub in_list : Layout → ℕ → Bool
 in_list l = is_within list_start (list_bytes l)
 
@@ -50,6 +52,7 @@ in_shared l a = in_link a || (in_table l a || (in_list l a || in_copies l a))
 
 -- ---- rights
 
+-- which addresses a view loads from, and which it stores to
 pub record Rights : Type 0 where
   pub load : ℕ → Bool
   pub store : ℕ → Bool
@@ -66,6 +69,7 @@ stub_rights = record { load = λ a. in_private a || in_link a; store = λ a. in_
 abbrev pub shadow_rights : Layout → Rights
 shadow_rights l = record { load = λ a. in_private a || (in_shared l a || in_range l a); store = λ a. in_private a || in_shared l a }
 
+-- the rights of each view
 abbrev pub rights_of : View → Layout → Rights
 rights_of Plain l = data_rights l
 rights_of Program l = data_rights l

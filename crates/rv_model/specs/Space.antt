@@ -44,6 +44,7 @@ shadow_sees l words program shared page a =
       | false ↦ elim (in_range l a) [ true ↦ program_byte l words program a | false ↦ shared a ]
     ]
 
+-- the memory that a view loads from
 abbrev pub sees : View → Space → Memory
 sees Plain s = s.program
 sees Program s = s.program
@@ -52,14 +53,17 @@ sees Shadow s = shadow_sees s.layout s.text s.program s.shared s.shadow_page
 
 -- ---- a store that the view allows
 
+-- a store of the stub: to its private page (true), or to a shared part
 abbrev pub stub_stored : Bool → Space → ℕ → ℕ → ℕ → Space
 stub_stored true s a width v = record s { stub_page = stored s.stub_page a width v }
 stub_stored false s a width v = record s { shared = stored s.shared a width v }
 
+-- a store of the shadow: to its private page (true), or to a shared part
 abbrev pub shadow_stored : Bool → Space → ℕ → ℕ → ℕ → Space
 shadow_stored true s a width v = record s { shadow_page = stored s.shadow_page a width v }
 shadow_stored false s a width v = record s { shared = stored s.shared a width v }
 
+-- a store in a view
 abbrev pub stored_in : View → Space → ℕ → ℕ → ℕ → Space
 stored_in Plain s a width v = record s { program = stored s.program a width v }
 stored_in Program s a width v = record s { program = stored s.program a width v }
@@ -68,6 +72,7 @@ stored_in Shadow s a width v = shadow_stored (in_private a) s a width v
 
 -- ---- fetches
 
+-- the shadow's word at pc: of the helpers (true), or of the shadow text
 abbrev pub shadow_word : Bool → Space → ℕ → Option ℕ
 shadow_word true s pc = fetched s.helpers helpers_start pc
 shadow_word false s pc = fetched s.shadow shadow_start pc
@@ -81,6 +86,7 @@ word_at Shadow s pc = shadow_word (nat_le helpers_start pc) s pc
 
 -- ---- one step
 
+-- a word is executed, or there is none to fetch
 abbrev pub word_effect : View → Space → Registers → ℕ → Option ℕ → Effect
 word_effect v s rs pc None = Trapped trap.FetchOut
 word_effect v s rs pc (Some word) = effect v (rights_of v s.layout) (sees v s) rs pc (instr_of word)

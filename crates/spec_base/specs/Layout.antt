@@ -24,9 +24,11 @@ range_start = 0x1000
 abbrev pub shadow_start : ℕ
 shadow_start = 0x4000_0000
 
+-- the helpers that blocks jump to
 abbrev pub helpers_start : ℕ
 helpers_start = 0x4110_0000
 
+-- the stub, which performs calls
 abbrev pub stub_start : ℕ
 stub_start = 0x4180_0000
 
@@ -34,6 +36,7 @@ stub_start = 0x4180_0000
 abbrev pub link_start : ℕ
 link_start = 0x4200_0000
 
+-- how many bytes the link has
 abbrev pub link_bytes : ℕ
 link_bytes = 0x2000
 
@@ -41,9 +44,11 @@ link_bytes = 0x2000
 abbrev pub table_start : ℕ
 table_start = 0x4300_0000
 
+-- the list of the regions in use
 abbrev pub list_start : ℕ
 list_start = 0x4400_0000
 
+-- the copies of regions
 abbrev pub copies_start : ℕ
 copies_start = 0x4500_0000
 
@@ -51,6 +56,7 @@ copies_start = 0x4500_0000
 abbrev pub private_start : ℕ
 private_start = 0xFFFF_FFFF_FFFF_F800
 
+-- how many bytes a private page has
 abbrev pub private_bytes : ℕ
 private_bytes = 2048
 
