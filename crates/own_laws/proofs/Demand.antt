@@ -12,7 +12,7 @@ use Rattle.rv_model.specs.Registers.{Registers, reg}
 use Rattle.rv_model.specs.Arithmetic.{signed}
 use Rattle.program_model.specs.Descriptors.{Descriptor, Free, Out, Err, File, Descriptors, slot, with_slot, lowest_free, EINVAL}
 use Rattle.program_model.specs.Calls.{CallPlan, Set, Look, Read, Write, Exit, CallKind, Open, OpenAt, Close, Seek, ReadFile, WriteFile, ExitProgram, Break, Unknown, kind_of, Named, Refused, Whole, name_at, look_if_free, open_named, open_plan, close_plan, seek_base, moved_to, seek_from, seek_plan, read_count, read_if, read_plan, put_if, write_plan, break_plan, plan_by}
-use Rattle.program_model.specs.Cache.{Cache, Gathered, gather, blocks_up, blocks_of, blocks_touched, holds, used, awaited}
+use Rattle.program_model.specs.Cache.{Cache, Gathered, gather, blocks_up, blocks_of, blocks_touched, holds, need_if, needed}
 use Rattle.program_model.specs.PlainRun.{State}
 use Rattle.run_model.specs.Run.{World, Run}
 use Rattle.own_laws.proofs.OwnSide.{plan}
@@ -97,12 +97,13 @@ pub record GatherOf (c : Cache) (had n : ℕ) (g : Gathered) : Type 0 where
 pub gather-of : (c : Cache) (had : ℕ) (spots : List BlockSpot) → GatherOf c had (length spots) (gather c had spots)
 unfolding gather
 gather-of c had [] = record { more = omega arith; here = λ e. refl; waiting = λ e. false_true e }
-gather-of c had (spot ∷ spots) = by_test (holds c.cached spot) (gather-of (used c spot) (had + 1) spots)
+gather-of c had (spot ∷ spots) = by_test (holds c.cached spot) (needed c spot) refl (gather-of (needed c spot) (had + 1) spots)
   where
-    by_test : (b : Bool) → GatherOf (used c spot) (had + 1) (length spots) (gather (used c spot) (had + 1) spots)
-        → GatherOf c had (suc (length spots)) (elim b [ true ↦ gather (used c spot) (had + 1) spots | false ↦ record { cache = awaited c spot; had = had; waits = true } ])
-    by_test true h = record { more = omega (arith, h.more); here = h.here; waiting = λ e. ((h.waiting e).0, omega (arith, (h.waiting e).1)) }
-    by_test false h = record { more = omega arith; here = λ e. false_true (sym e); waiting = λ e. (refl, omega arith) }
+    by_test : (b : Bool) (after : Cache) → after ≡ need_if b c spot → GatherOf after (had + 1) (length spots) (gather after (had + 1) spots)
+        → GatherOf c had (suc (length spots)) (elim b [ true ↦ gather after (had + 1) spots | false ↦ record { cache = after; had = had; waits = true } ])
+    by_test true after is h =
+        record { more = omega (arith, h.more); here = λ e. h.here e ∙ ap (λ x. x.demanded) is; waiting = λ e. ((h.waiting e).0, omega (arith, (h.waiting e).1)) }
+    by_test false after is h = record { more = omega arith; here = λ e. false_true (sym e); waiting = λ e. (ap (λ x. is_some x.demanded) is, omega arith) }
 
 -- ---- a read has at most 17 blocks
 
