@@ -1,0 +1,9 @@
+pub mod Registers
+pub mod Private
+pub mod Fetching
+pub mod Tabling
+pub mod Views
+pub mod Bridge
+pub mod Numbers
+pub mod JumpWords
+pub mod Stepping
