@@ -4,7 +4,7 @@ use Rattle.std.specs.List.{list_any}
 use Rattle.std.proofs.lemmas.Bool.Decides.{nat_tests}
 use Rattle.spec_base.specs.declared.layout.Version.{Version}
 use Rattle.spec_base.specs.declared.layout.Version.TheVariants.{One, Two}
-use Rattle.spec_base.specs.Layout.{range_start, image_limit, is_lawful}
+use Rattle.spec_base.specs.Layout.{range_start, image_limit, is_lawful, file_limit, text_limit}
 use Rattle.elf_image.specs.declared.header.FileHeader.{FileHeader}
 use Rattle.elf_image.specs.declared.segments.Segment.{Segment}
 use Rattle.elf_image.specs.declared.scan.Scan.{Scan}
@@ -56,14 +56,14 @@ lt-true a b h = grind (arith, nat_tests)
 eq-true : (a b : ℕ) → (a == b) ≡ true → a ≡ b
 eq-true a b h = grind (arith, nat_tests)
 
-table-holds : (bytes : List ℕ) → nat_lt 67_108_864 (length bytes) ≡ false → nat_lt (length bytes) 64 ≡ false
+table-holds : (bytes : List ℕ) → nat_lt file_limit (length bytes) ≡ false → nat_lt (length bytes) 64 ≡ false
     → holds_table (file_header bytes) (length bytes) ≡ true → HasTable bytes
 table-holds bytes long short h =
     let last = and-true _ _ h in
     let third = and-true _ _ last.0 in
     let second = and-true _ _ third.0 in
     record {
-      few_bytes = at-most 67_108_864 (length bytes) long;
+      few_bytes = at-most file_limit (length bytes) long;
       has_header = at-most (length bytes) 64 short;
       some = le-true _ _ second.1;
       few = le-true _ _ third.1;
@@ -149,7 +149,7 @@ pub record IsTextSpan (code : Option Segment) (t : Span) : Type 0 where
   pub end_aligned : t.end % 4 ≡ 0
   pub after : segment.address ≤ t.start
   pub before : t.end ≤ segment.address + segment.length
-  pub few : t.end - t.start ≤ 1_048_576
+  pub few : t.end - t.start ≤ text_limit
 
 text-span : (code : Option Segment) (t : Span) → is_text_of code t ≡ true → IsTextSpan code t
 text-span None t h = absurd (cc)
@@ -187,7 +187,7 @@ true-eq : (a b : ℕ) → a ≡ b → (a == b) ≡ true
 true-eq a b h = grind (arith, nat_tests)
 
 lawful : (version : Version) (start end k : ℕ) → start % 4 ≡ 0 → end % 4 ≡ 0 → range_start ≤ start → start < end → end ≤ image_limit version
-    → end - start ≤ 1_048_576 → 1 ≤ k → k ≤ 65_536
+    → end - start ≤ text_limit → 1 ≤ k → k ≤ 65_536
     → IsTrue (is_lawful (record { text_start = start; text_end = end; regions = k; version = version }))
 lawful version start end k a b c d e f g h =
     both _ _ (both _ _ (both _ _ (both _ _ (both _ _ (both _ _ (both _ _ (true-eq _ _ a) (true-eq _ _ b)) (true-le _ _ c)) (true-lt _ _ d)) (true-le _ _ e))
@@ -245,7 +245,7 @@ built bytes version image t given table few apart ordered text entry start end b
     let after : code.address ≤ image.text_start = rw (← start) text.after in
     let before : image.text_end ≤ code.address + code.length = rw (← end) text.before in
     let some : image.text_start < image.text_end = rw (← start, ← end) text.some in
-    let few_words : image.text_end - image.text_start ≤ 1_048_576 = rw (← start, ← end) text.few in
+    let few_words : image.text_end - image.text_start ≤ text_limit = rw (← start, ← end) text.few in
     let start_aligned : image.text_start % 4 ≡ 0 = rw (← start) text.start_aligned in
     let end_aligned : image.text_end % 4 ≡ 0 = rw (← end) text.end_aligned in
     let text_above : range_start ≤ image.text_start = omega (arith, above, after) in

@@ -1,4 +1,5 @@
 -- The ELF header (gABI chapter 4, "ELF Header"; RISC-V psABI, "File Header"), and the reasons to refuse that it gives.
+use Rattle.spec_base.specs.Layout.{file_limit}
 use Rattle.std.specs.Prelude.{ℕ, ◌+◌, ◌*◌, ◌%◌, ◌==◌, ◌≤◌, ◌&&◌, Bool, not, nat_lt, nat_le, if◌then◌else◌, List, length, slice_index, Option, Some, None}
 use Rattle.elf_image.specs.Fields.{half_at, word_at, xword_at}
 use Rattle.elf_image.specs.declared.header.FileHeader.{FileHeader}
@@ -49,7 +50,7 @@ holds_table h file_length =
 abbrev pub header_refusal : List ℕ → Option Refusal
 header_refusal bytes =
     let h = file_header bytes in
-    if nat_lt 67_108_864 (length bytes) then Some TooLong
+    if nat_lt file_limit (length bytes) then Some TooLong
     else if nat_lt (length bytes) 64 then Some Short
     else if not (has_magic bytes) then Some Magic
     else if not (ei_class bytes == 2) then Some Class
@@ -63,7 +64,7 @@ header_refusal bytes =
 
 -- what follows where none holds
 pub record HasTable (bytes : List ℕ) : Type 0 where
-  pub few_bytes : length bytes ≤ 67_108_864
+  pub few_bytes : length bytes ≤ file_limit
   pub has_header : 64 ≤ length bytes
   pub some : 1 ≤ (file_header bytes).e_phnum
   pub few : (file_header bytes).e_phnum ≤ 64

@@ -1,7 +1,7 @@
 -- What holds of an accepted file's image (this project's own). All of it follows from the profile.
 use Rattle.std.specs.Prelude.{◌≡◌, ℕ, ◌+◌, ◌-◌, ◌/◌, ◌%◌, ◌<◌, ◌≤◌, List, [], ◌∷◌, zero, suc, length, All, AllPairs, IsTrue, Option, Some, None, Ok}
 use Rattle.spec_base.specs.declared.layout.Version.{Version}
-use Rattle.spec_base.specs.Layout.{range_start, image_limit, is_lawful}
+use Rattle.spec_base.specs.Layout.{range_start, image_limit, is_lawful, file_limit, text_limit}
 use Rattle.elf_image.specs.Fields.{word_at}
 use Rattle.elf_image.specs.Segments.{end_of, highest_end}
 use Rattle.elf_image.specs.Header.{file_header, HasTable}
@@ -26,14 +26,14 @@ pub record IsTextOf (bytes : List ℕ) (image : Image) : Type 0 where
   pub after : code.address ≤ image.text_start
   pub before : image.text_end ≤ code.address + code.length
   pub some : image.text_start < image.text_end
-  pub few : image.text_end - image.text_start ≤ 1_048_576
+  pub few : image.text_end - image.text_start ≤ text_limit
   pub start_aligned : image.text_start % 4 ≡ 0
   pub end_aligned : image.text_end % 4 ≡ 0
 
 -- the image is the one that a file has under a version, with all that follows
 pub record IsImage (bytes : List ℕ) (version : Version) (image : Image) : Type 0 where
   pub given : profile bytes version ≡ Ok image
-  pub few_bytes : length bytes ≤ 67_108_864
+  pub few_bytes : length bytes ≤ file_limit
   pub few_segments : length image.segments ≤ 64
   pub placed : All (IsPlaced (image_limit version) bytes) image.segments
   pub ascending : AllPairs (λ s t. end_of s ≤ t.address) image.segments

@@ -1,4 +1,5 @@
 -- The section header table (gABI chapter 4, "Sections"), the text of a file, and the reasons to refuse that they give.
+use Rattle.spec_base.specs.Layout.{text_limit}
 use Rattle.std.specs.Prelude.{ℕ, zero, suc, ◌+◌, ◌-◌, ◌*◌, ◌%◌, ◌==◌, ◌&&◌, Bool, true, false, not, nat_lt, nat_le, min, max, cond, if◌then◌else◌, List, length, Option, Some, None}
 use Rattle.elf_image.specs.Fields.{xword_at, has_bit}
 use Rattle.elf_image.specs.Header.{file_header}
@@ -56,7 +57,7 @@ is_text_of None t = false
 is_text_of (Some s) t =
     nat_lt t.start t.end && (t.start % 4 == 0) && (t.end % 4 == 0)
     && nat_le s.address t.start && nat_le t.end (s.address + s.length)
-    && nat_le (t.end - t.start) 1_048_576
+    && nat_le (t.end - t.start) text_limit
 
 -- an aligned address of the text
 abbrev pub is_entry_of : Span → ℕ → Bool

@@ -7,17 +7,17 @@ use Rattle.std.specs.Int.{to_le_bytes, w64}
 use Rattle.std.proofs.lemmas.List.{get_or-take, length-take-le}
 use Rattle.spec_base.specs.declared.memory_fault.NoMemory.{NoMemory}
 use Rattle.spec_base.specs.Word.{byte_of}
-use Rattle.spec_base.specs.Layout.{range_end}
+use Rattle.spec_base.specs.Layout.{range_end, helper_words, stub_words}
 use Rattle.spec_base.specs.declared.machine.View.{View}
 use Rattle.spec_base.specs.declared.machine.View.TheVariants.{Plain, Program, Stub, Shadow}
-use Rattle.rv_model.specs.Memory.{Memory, loaded, patched, stored, written, all_from}
+use Rattle.rv_model.specs.Memory.{Memory, loaded, patched, stored, written, all_from, zeros}
 use Rattle.rv_model.specs.Rights.{in_private, in_range, in_shared, in_text, is_data, rights_of}
 use Rattle.rv_model.specs.Space.{Space, sees, stored_in, text_byte}
 use Rattle.program_model.specs.Loading.{data_of}
 use Rattle.hart_mem.specs.Access.{IsWidth}
 use Rattle.hart_mem.specs.Paged.{Paged, IsEmpty, flat, is_held, pages_touched}
 use Rattle.hart_mem.specs.Places.{place_of, shared_place, stub_place, shadow_place}
-use Rattle.hart_mem.specs.Held.{Held, IsOffText, IsWhole, code_or_zeros, data_byte, empty_space, lacks_frame, load_answer, load_if, shadow_words, part, space_of, zeros}
+use Rattle.hart_mem.specs.Held.{Held, IsOffText, IsWhole, code_or_zeros, data_byte, empty_space, lacks_frame, load_answer, load_answer_if, shadow_words, part, space_of}
 use Rattle.hart_mem.specs.declared.access.Access.{Access}
 use Rattle.hart_mem.specs.declared.access.Access.TheVariants as access
 use Rattle.hart_mem.proofs.CodeLemmas.{code_given}
@@ -54,8 +54,8 @@ pub coded_space : (h : Held) (s k b : List ℕ) → 1 ≤ length s → 1 ≤ len
 unfolding space_of
 coded_space h s k b e f g =
     let one : code_or_zeros s (shadow_words h.layout) ≡ s = sym (code_given s (shadow_words h.layout) e) in
-    let two : code_or_zeros k 282 ≡ k = sym (code_given k 282 f) in
-    let three : code_or_zeros b 71 ≡ b = sym (code_given b 71 g) in
+    let two : code_or_zeros k helper_words ≡ k = sym (code_given k helper_words f) in
+    let three : code_or_zeros b stub_words ≡ b = sym (code_given b stub_words g) in
     rw (one, two, three) refl
 
 -- ---- no bytes
@@ -213,10 +213,10 @@ loaded_one m a = omega arith
 
 -- ---- answers
 
-out_if : (t inside : Bool) (n : ℕ) → t ≡ true → inside ≡ false → (let out : Result ℕ Access = Err access.Out in out) ≡ load_if t inside n
+out_if : (t inside : Bool) (n : ℕ) → t ≡ true → inside ≡ false → (let out : Result ℕ Access = Err access.Out in out) ≡ load_answer_if t inside n
 out_if t inside n e f = rw (e, f) refl
 
-ok_if : (t inside : Bool) (n : ℕ) → t ≡ true → inside ≡ true → (let ok : Result ℕ Access = Ok n in ok) ≡ load_if t inside n
+ok_if : (t inside : Bool) (n : ℕ) → t ≡ true → inside ≡ true → (let ok : Result ℕ Access = Ok n in ok) ≡ load_answer_if t inside n
 ok_if t inside n e f = rw (e, f) refl
 
 module _ (h : Held) (v : View) (a n : ℕ) (aligned : a % n ≡ 0) where

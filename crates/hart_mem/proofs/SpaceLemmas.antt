@@ -1,7 +1,7 @@
 -- What the views see of the pages, and what a change of the pages makes of the memory of all parts.
 use Rattle.std.proofs.Common.{◌≡◌, ℕ, ◌+◌, ◌-◌, ◌%◌, ◌<◌, ◌≤◌, IsTrue, refl, ap, sym, ◌∙◌, arith}
 use Rattle.std.proofs.lemmas.Bool.Decides.{nat_tests}
-use Rattle.spec_base.specs.Layout.{range_end}
+use Rattle.spec_base.specs.Layout.{range_end, helper_words, stub_words}
 use Rattle.spec_base.specs.declared.layout.Layout.{Layout}
 use Rattle.rv_model.specs.Memory.{Memory, patched}
 use Rattle.rv_model.specs.Rights.{is_data, in_private, in_shared}
@@ -20,8 +20,8 @@ spaced h m =
       layout = h.layout;
       text = h.text;
       shadow = code_or_zeros h.shadow (shadow_words h.layout);
-      helpers = code_or_zeros h.helpers 282;
-      stub = code_or_zeros h.stub 71;
+      helpers = code_or_zeros h.helpers helper_words;
+      stub = code_or_zeros h.stub stub_words;
       program = part (is_data h.layout) (λ a. a) m;
       shared = part (in_shared h.layout) (shared_place h.layout) m;
       stub_page = part in_private (stub_place h.layout) m;

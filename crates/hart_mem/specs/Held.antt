@@ -1,12 +1,12 @@
 -- What a hart's memory holds, and the memory of all parts that it stands for (this project's own).
 use Rattle.std.specs.Prelude.{◌≡◌, ℕ, ◌+◌, ◌-◌, ◌*◌, ◌/◌, ◌%◌, ◌<◌, Bool, true, false, ◌==◌, not, ◌&&◌, List, [], ◌∷◌, length, replicate, IsTrue, Result, Ok, Err, Option, Some, None}
-use Rattle.spec_base.specs.Layout.{range_end, is_lawful}
+use Rattle.spec_base.specs.Layout.{range_end, is_lawful, helper_words, stub_words}
 use Rattle.spec_base.specs.declared.layout.Version.{Version}
 use Rattle.spec_base.specs.declared.layout.Version.TheVariants.{One, Two}
 use Rattle.spec_base.specs.declared.layout.Layout.{Layout}
 use Rattle.spec_base.specs.declared.machine.View.{View}
 use Rattle.spec_base.specs.declared.machine.View.TheVariants.{Plain, Program, Stub, Shadow}
-use Rattle.rv_model.specs.Memory.{Memory, loaded, all_from}
+use Rattle.rv_model.specs.Memory.{Memory, loaded, all_from, zeros}
 use Rattle.rv_model.specs.Rights.{in_private, in_shared, in_text, is_data, rights_of}
 use Rattle.rv_model.specs.Space.{Space, sees}
 use Rattle.hart_mem.specs.Paged.{Paged, flat, is_held, AreHeld}
@@ -47,8 +47,8 @@ space_of h =
       layout = h.layout;
       text = h.text;
       shadow = code_or_zeros h.shadow (shadow_words h.layout);
-      helpers = code_or_zeros h.helpers 282;
-      stub = code_or_zeros h.stub 71;
+      helpers = code_or_zeros h.helpers helper_words;
+      stub = code_or_zeros h.stub stub_words;
       program = part (is_data h.layout) (λ a. a) (flat h.pages);
       shared = part (in_shared h.layout) (shared_place h.layout) (flat h.pages);
       stub_page = part in_private (stub_place h.layout) (flat h.pages);
@@ -69,20 +69,20 @@ pub record IsWhole (h : Held) : Type 0 where
 -- ---- answers
 
 -- a load is refused first where the address is no multiple of the width, then where a byte isn't one that the view loads
-abbrev pub load_if : Bool → Bool → ℕ → Result ℕ Access
-load_if false inside n = Err access.Unaligned
-load_if true false n = Err access.Out
-load_if true true n = Ok n
+abbrev pub load_answer_if : Bool → Bool → ℕ → Result ℕ Access
+load_answer_if false inside n = Err access.Unaligned
+load_answer_if true false n = Err access.Out
+load_answer_if true true n = Ok n
 
 abbrev pub load_answer : View → Space → ℕ → ℕ → Result ℕ Access
-load_answer view s a width = load_if (a % width == 0) (all_from (rights_of view s.layout).load a width) (loaded (sees view s) a width)
+load_answer view s a width = load_answer_if (a % width == 0) (all_from (rights_of view s.layout).load a width) (loaded (sees view s) a width)
 
 -- a store is also refused where a page of the program range has no frame and none is spare
-abbrev pub store_if : Bool → Bool → Bool → Result Unit StoreFault
-store_if false inside lacks = Err fault.Unaligned
-store_if true false lacks = Err fault.Out
-store_if true true true = Err fault.NoMemory
-store_if true true false = Ok tt
+abbrev pub store_answer_if : Bool → Bool → Bool → Result Unit StoreFault
+store_answer_if false inside lacks = Err fault.Unaligned
+store_answer_if true false lacks = Err fault.Out
+store_answer_if true true true = Err fault.NoMemory
+store_answer_if true true false = Ok tt
 
 -- whether a store at an address would need a frame, and none is spare
 abbrev pub lacks_frame_at : Held → ℕ → Bool
@@ -95,7 +95,7 @@ lacks_frame Stub h a = false
 lacks_frame Shadow h a = false
 
 abbrev pub store_answer : View → Space → Bool → ℕ → ℕ → Result Unit StoreFault
-store_answer view s lacks a width = store_if (a % width == 0) (all_from (rights_of view s.layout).store a width) lacks
+store_answer view s lacks a width = store_answer_if (a % width == 0) (all_from (rights_of view s.layout).store a width) lacks
 
 -- the byte at an address that is data
 abbrev pub data_byte : Space → ℕ → Option ℕ
@@ -107,9 +107,6 @@ IsOffText l a n = (i : ℕ) → i < n → in_text l (a + i) ≡ false
 
 -- ---- at the start
 
-abbrev pub zeros : Memory
-zeros a = 0
-
 -- a memory of a text, whose emitted code and whose bytes are zero
 abbrev pub empty_space : Layout → List ℕ → Space
 empty_space l text =
@@ -117,8 +114,8 @@ empty_space l text =
       layout = l;
       text = text;
       shadow = code_or_zeros [] (shadow_words l);
-      helpers = code_or_zeros [] 282;
-      stub = code_or_zeros [] 71;
+      helpers = code_or_zeros [] helper_words;
+      stub = code_or_zeros [] stub_words;
       program = zeros;
       shared = zeros;
       stub_page = zeros;

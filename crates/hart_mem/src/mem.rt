@@ -2,7 +2,7 @@
 
 ghost use Rattle.std.specs.Prelude.{ℕ, ◌≡◌, ◌+◌, ◌-◌, ◌*◌, ◌/◌, ◌%◌, ◌^◌, ◌<◌, ◌≤◌, ◌&&◌, not, ◌==◌, IsTrue, IsOk, true, false, length, vec_len, Err, IfOk, OnOk, OnErr};
 ghost use Rattle.spec_base.specs.Word.{byte_of};
-ghost use Rattle.spec_base.specs.Layout.{range_end, is_lawful};
+ghost use Rattle.spec_base.specs.Layout.{range_end, is_lawful, helper_words, stub_words};
 ghost use Rattle.rv_model.specs.Memory.{all_from, loaded, written};
 ghost use Rattle.rv_model.specs.Rights.{is_data, in_range, rights_of};
 ghost use Rattle.rv_model.specs.Space.{program_byte, sees, stored_in, word_at};
@@ -129,8 +129,8 @@ impl Mem {
     #[tactic(auto, unfolding(crate::specs::Held::space_of, crate::specs::Held::spare_of))]
     pub fn set_code(&mut self, shadow: Vec<u32>, helpers: Vec<u32>, stub: Vec<u32>)
         requires shadow { vec_len shadow ≡ shadow_words (space_of self.old).layout }
-        requires helpers { vec_len helpers ≡ 282 }
-        requires stub { vec_len stub ≡ 71 }
+        requires helpers { vec_len helpers ≡ helper_words }
+        requires stub { vec_len stub ≡ stub_words }
         ensures space { space_of self.new ≡ record (space_of self.old) { shadow = shadow.items; helpers = helpers.items; stub = stub.items } }
         ensures spare { spare_of self.new ≡ spare_of self.old }
     {

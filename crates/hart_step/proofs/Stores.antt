@@ -7,7 +7,7 @@ use Rattle.spec_base.specs.declared.machine.Trap.TheVariants as trap
 use Rattle.rv_model.specs.Effect.{Stored, Trapped, store_if}
 use Rattle.hart_mem.specs.declared.access.StoreFault.{StoreFault}
 use Rattle.hart_mem.specs.declared.access.StoreFault.TheVariants as fault
-use Rattle.hart_mem.specs.Held.{Held, lacks_frame, spare_of, store_if as answer_if}
+use Rattle.hart_mem.specs.Held.{Held, lacks_frame, spare_of, store_answer_if as answer_if}
 
 -- the memory is willing
 pub store_made : (aligned inside lacks : Bool) (a width v : ℕ) → answer_if aligned inside lacks ≡ Ok tt → (store_if aligned inside a width v ≡ Stored a width v) × (lacks ≡ false)

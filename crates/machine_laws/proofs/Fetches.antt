@@ -6,7 +6,7 @@ use Rattle.std.proofs.Math.ListN.{length-replicate}
 use Rattle.std.proofs.lemmas.Bool.Decides.{nat_tests}
 use Rattle.std.proofs.lemmas.Option.{slice_get-map}
 use Rattle.std.proofs.lemmas.List.Elements.{All-head, All-tail, All-map, All-weaker}
-use Rattle.spec_base.specs.Layout.{shadow_start, helpers_start, stub_start, is_lawful}
+use Rattle.spec_base.specs.Layout.{shadow_start, helpers_start, stub_start, is_lawful, helper_words, stub_words}
 use Rattle.spec_base.specs.declared.layout.Layout.{Layout}
 use Rattle.spec_base.specs.declared.machine.View.TheVariants.{Program, Stub, Shadow}
 use Rattle.rv_decode.specs.Instruction.{instr_of}
@@ -186,11 +186,11 @@ module _ (w : World) (a : Accepted w) (r : Run) where
       let k : length (map word_of (shadow_text w)) ≡ length (shadow_text w) = as-long word_of (shadow_text w) in
       record { as_many = k ∙ e ∙ ap (λ (i : ℕ). 16 * i) (n ∙ ap (λ (i : ℕ). i + 1) m); bits = word-bits (shadow-has w a) }
 
-  helpers-words : AreWords (space_of_run w r).helpers 282
+  helpers-words : AreWords (space_of_run w r).helpers helper_words
   unfolding space_of_run
   helpers-words = record { as_many = as-long word_of (helpers w.image.layout); bits = word-bits (helpers-have w.image.layout) }
 
-  stub-words : AreWords (space_of_run w r).stub 71
+  stub-words : AreWords (space_of_run w r).stub stub_words
   unfolding space_of_run
   stub-words = record { as_many = as-long word_of stub; bits = word-bits stub-has }
 

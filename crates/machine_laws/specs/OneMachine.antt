@@ -1,7 +1,7 @@
 -- The machine of a rewritten program stands in two forms: a memory of words, as a hart executes it, and instructions with the parts of a run, as the laws have it. They are the same machine (this project's own).
 use Rattle.std.specs.Prelude.{ℕ, ◌+◌, ◌*◌, ◌^◌, ◌≡◌, ◌<◌, ⊤, Bool, true, false, List, length, map, flat_map, Option, IsTrue, All}
 use Rattle.std.specs.Option.{option_map}
-use Rattle.spec_base.specs.Layout.{stub_start}
+use Rattle.spec_base.specs.Layout.{stub_start, helper_words, stub_words}
 use Rattle.spec_base.specs.declared.machine.View.{View}
 use Rattle.spec_base.specs.declared.machine.View.TheVariants.{Plain, Program, Stub, Shadow}
 use Rattle.spec_base.specs.declared.note.ShadowState.TheVariants.{Running}
@@ -51,8 +51,8 @@ pub record AreWords (words : List ℕ) (count : ℕ) : Type 0 where
 pub record HasCode (w : World) (r : Run) : Type 0 where
   pub text : AreWords (space_of_run w r).text (length w.image.words)
   pub shadow : AreWords (space_of_run w r).shadow (16 * (length w.image.words + 1))
-  pub helpers : AreWords (space_of_run w r).helpers 282
-  pub stub : AreWords (space_of_run w r).stub 71
+  pub helpers : AreWords (space_of_run w r).helpers helper_words
+  pub stub : AreWords (space_of_run w r).stub stub_words
 
 -- every run of an accepted program has its code
 abbrev pub CodeIsWords : Type 0

@@ -6,8 +6,8 @@ use Rattle.spec_base.specs.declared.machine.View.TheVariants.{Plain}
 use Rattle.rv_model.specs.Space.{Space}
 use Rattle.program_model.specs.Descriptors.{Descriptors}
 use Rattle.program_model.specs.PlainRun.{Image as Program}
-use Rattle.rv_model.specs.Memory.{written}
-use Rattle.program_model.specs.Loading.{Executable, loaded_image, data_of, with_parts, no_bytes, arguments_start, argument_bytes, stack_start, stack_words, bytes_of_words}
+use Rattle.rv_model.specs.Memory.{written, zeros}
+use Rattle.program_model.specs.Loading.{Executable, loaded_image, data_of, with_parts, arguments_start, argument_bytes, stack_start, stack_words, bytes_of_words}
 use Rattle.hart_mem.specs.Held.{empty_space}
 use Rattle.elf_image.specs.declared.image.Image.{Image}
 use Rattle.elf_image.specs.declared.segments.Segment.{Segment}
@@ -49,7 +49,7 @@ pub record IsLoaded (p : Program) (core : Core) (space : Space) (f : Descriptors
 
 -- a memory of the text with the file parts
 abbrev pub parts_space : Executable → Space
-parts_space e = record (empty_space e.layout e.words) { program = data_of e.layout (with_parts no_bytes e.parts) }
+parts_space e = record (empty_space e.layout e.words) { program = data_of e.layout (with_parts zeros e.parts) }
 
 -- a memory with the arguments and the stack
 abbrev pub start_space : Space → List (List ℕ) → Space

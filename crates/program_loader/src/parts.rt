@@ -2,8 +2,8 @@
 
 ghost use Rattle.std.specs.Prelude.{◌≡◌, ℕ, ◌+◌, ◌<◌, ◌≤◌, length, map, take, drop, All, IfOk};
 ghost use Rattle.spec_base.specs.Layout.{image_limit};
-ghost use Rattle.program_model.specs.Loading.{data_of, with_parts, no_bytes};
-ghost use Rattle.rv_model.specs.Memory.{written};
+ghost use Rattle.program_model.specs.Loading.{data_of, with_parts};
+ghost use Rattle.rv_model.specs.Memory.{written, zeros};
 ghost use Rattle.elf_image.specs.Image.{IsPlaced};
 ghost use Rattle.hart_mem.specs.Held.{space_of};
 ghost use Rattle.program_loader.specs.Programs.{part_of};
@@ -36,8 +36,8 @@ fn load_segment(mem: &mut Mem, bytes: &[u8], segment: &Segment) -> Result<(), No
 /// Loads the file parts of the segments into a memory that is clean.
 pub fn load_parts(mem: &mut Mem, bytes: &[u8], segments: &[Segment]) -> Result<(), NoMemory>
     requires placed { All (IsPlaced (image_limit (space_of mem.old).layout.version) bytes.now) segments.now }
-    requires clean { (space_of mem.old).program ≡ no_bytes }
-    ensures { IfOk result (λ _. space_of mem.new ≡ record (space_of mem.old) { program = data_of (space_of mem.old).layout (with_parts no_bytes (map (part_of bytes.now) segments.now)) }) }
+    requires clean { (space_of mem.old).program ≡ zeros }
+    ensures { IfOk result (λ _. space_of mem.new ≡ record (space_of mem.old) { program = data_of (space_of mem.old).layout (with_parts zeros (map (part_of bytes.now) segments.now)) }) }
 {
     for segment in segments {
         load_segment(mem, bytes, segment)?;

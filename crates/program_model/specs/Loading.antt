@@ -3,7 +3,7 @@ use Rattle.std.specs.Prelude.{ℕ, zero, suc, ◌+◌, ◌-◌, ◌*◌, ◌/◌
 use Rattle.spec_base.specs.Word.{bytes_of}
 use Rattle.spec_base.specs.Layout.{range_end, image_limit}
 use Rattle.spec_base.specs.declared.layout.Layout.{Layout}
-use Rattle.rv_model.specs.Memory.{Memory, written}
+use Rattle.rv_model.specs.Memory.{Memory, zeros, written}
 use Rattle.rv_model.specs.Rights.{in_text}
 use Rattle.rv_model.specs.Registers.{Registers, with_reg, all_zero}
 use Rattle.program_model.specs.Descriptors.{start_of}
@@ -18,10 +18,6 @@ pub record Executable : Type 0 where
   pub break_start : ℕ
 
 -- ---- the loaded bytes
-
--- a memory of zeros
-abbrev pub no_bytes : Memory
-no_bytes a = 0
 
 -- the parts of a file, written in order
 abbrev pub with_parts : Memory → List (ℕ × List ℕ) → Memory
@@ -68,7 +64,7 @@ stack_start l arguments = (arguments_start l arguments - 8 * (length arguments +
 -- the memory in which a program starts
 abbrev pub start_memory : Executable → List (List ℕ) → Memory
 start_memory e arguments =
-    written (written (data_of e.layout (with_parts no_bytes e.parts)) (arguments_start e.layout arguments) (argument_bytes arguments))
+    written (written (data_of e.layout (with_parts zeros e.parts)) (arguments_start e.layout arguments) (argument_bytes arguments))
     (stack_start e.layout arguments) (bytes_of_words (stack_words e.layout arguments))
 
 -- an output before its first put

@@ -3,14 +3,14 @@ use Rattle.std.proofs.Common.{◌≡◌, ℕ, List, [], ◌∷◌, true, false, 
 use Rattle.spec_base.specs.declared.note.ShadowState.TheVariants.{Parked}
 use Rattle.spec_base.specs.declared.park.Park.TheVariants as park
 use Rattle.rv_decode.specs.Instruction.{instr_of}
-use Rattle.rv_model.specs.Memory.{patched, loaded, bytes_at, all_from}
+use Rattle.rv_model.specs.Memory.{patched, loaded, bytes_at, all_from, any_from}
 use Rattle.program_model.specs.Calls.{name_from}
 use Rattle.program_model.specs.PlainRun.{state_after}
 use Rattle.program_model.specs.Cache.{gather}
 use Rattle.code_model.specs.Regions.{shadowed, with_copies, set_in_copies, uncopied}
 use Rattle.run_model.specs.Run.{Run}
 use Rattle.run_model.specs.Moves.{run, run_from}
-use Rattle.run_model.specs.Restarts.{unfilled_with, any_from, before_horizon, reads}
+use Rattle.run_model.specs.Restarts.{unfilled_with, before_horizon, reads}
 use Rattle.run_model.specs.Marks.{marks_with, before_use, before_use_with}
 use Rattle.run_model.proofs.Samples.{exits_7, reads_thrice, stores_twice, loads_early, records, rounds, report, spots}
 

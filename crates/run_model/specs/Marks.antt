@@ -1,15 +1,16 @@
 -- Marks: what may rest on a byte that a skipped read left unfilled, and the first use of such a value (this project's own).
+use Rattle.spec_base.specs.Listed.{is_listed}
 use Rattle.std.specs.Prelude.{ℕ, zero, suc, ◌≡◌, IsTrue, Bool, true, false, not, ◌&&◌, ◌||◌, List, ◌==◌, Option, Some, None}
 use Rattle.spec_base.specs.Word.{plus_int}
 use Rattle.spec_base.specs.declared.layout.Layout.{Layout}
 use Rattle.rv_decode.specs.declared.instr.Instr.{Instr}
 use Rattle.rv_decode.specs.declared.instr.Instr.TheVariants.{Lui, Auipc, Jal, Jalr, Branch, Load, Store, OpImm, OpImmW, Op, OpW, Ecall}
-use Rattle.rv_model.specs.Memory.{is_within}
+use Rattle.rv_model.specs.Memory.{is_within, any_from}
 use Rattle.rv_model.specs.Registers.{reg}
 use Rattle.rv_model.specs.Arithmetic.{load_width, store_width}
 use Rattle.program_model.specs.PlainRun.{State, Image}
 use Rattle.run_model.specs.Run.{World, Run}
-use Rattle.run_model.specs.Restarts.{from_restart, instr_at, Action, Reads, TakesName, Loads, Stores, Other, call_action, is_filled_number, nothing, any_from, read_leaves}
+use Rattle.run_model.specs.Restarts.{from_restart, instr_at, Action, Reads, TakesName, Loads, Stores, Other, call_action, nothing, read_leaves}
 
 -- which registers and which bytes are marked
 pub record Marks : Type 0 where
@@ -63,7 +64,7 @@ marks_after_some p filled (Some s) m = marks_after p.layout filled s (instr_at p
 -- the marks after i instructions of the run from the restart, where the reads of these numbers were filled in the copies
 unfoldable pub marks_with : List ℕ → World → Run → ℕ → Marks
 marks_with numbers w r zero = no_marks
-marks_with numbers w r (suc i) = marks_after_some w.image (is_filled_number numbers (suc i)) (from_restart w r i) (marks_with numbers w r i)
+marks_with numbers w r (suc i) = marks_after_some w.image (is_listed numbers (suc i)) (from_restart w r i) (marks_with numbers w r i)
 
 -- the marks after i instructions, by the reads that were filled so far
 abbrev pub marks : World → Run → ℕ → Marks

@@ -1,13 +1,13 @@
 -- The plain run from a restart, which the shadow is to follow, and the reads in it (this project's own).
+use Rattle.spec_base.specs.Listed.{is_listed}
 use Rattle.std.specs.Prelude.{ℕ, zero, suc, ◌+◌, ◌%◌, ◌≡◌, IsTrue, Bool, true, false, not, ◌&&◌, ◌||◌, List, [], ◌∷◌, ◌++◌, ◌==◌, Option, Some, None}
-use Rattle.std.specs.List.{list_any}
 use Rattle.std.specs.Option.{option_and_then}
 use Rattle.spec_base.specs.Word.{plus_int}
 use Rattle.spec_base.specs.declared.layout.Layout.{Layout}
 use Rattle.spec_base.specs.declared.spot.ReadSpot.{ReadSpot}
 use Rattle.rv_decode.specs.declared.instr.Instr.{Instr}
 use Rattle.rv_decode.specs.declared.instr.Instr.TheVariants.{Load, Store, Ecall}
-use Rattle.rv_model.specs.Memory.{Memory, is_within}
+use Rattle.rv_model.specs.Memory.{Memory, is_within, any_from}
 use Rattle.rv_model.specs.Rights.{is_data}
 use Rattle.rv_model.specs.Registers.{reg}
 use Rattle.rv_model.specs.Arithmetic.{load_width, store_width}
@@ -81,10 +81,6 @@ action w r (suc i) = some_action w.image (from_restart w r i)
 
 -- ---- unfilled bytes
 
--- the reads of these numbers were filled in the copies
-abbrev pub is_filled_number : List ℕ → ℕ → Bool
-is_filled_number numbers i = list_any (λ k. k == i) numbers
-
 -- whether a byte is unfilled behind a read: one of its own bytes (true), or another
 abbrev pub read_leaves : Bool → Bool → Bool → Bool
 read_leaves true filled before = not filled
@@ -105,18 +101,13 @@ nothing i = false
 -- the addresses that are unfilled after the first i instructions, where the reads of these numbers were filled in the copies
 unfoldable pub unfilled_with : List ℕ → World → Run → ℕ → ℕ → Bool
 unfilled_with numbers w r zero = nothing
-unfilled_with numbers w r (suc i) = unfilled_by (unfilled_with numbers w r i) (action w r (suc i)) (is_filled_number numbers (suc i))
+unfilled_with numbers w r (suc i) = unfilled_by (unfilled_with numbers w r i) (action w r (suc i)) (is_listed numbers (suc i))
 
 -- the same by the reads that were filled so far
 abbrev pub unfilled : World → Run → ℕ → ℕ → Bool
 unfilled w r i = unfilled_with r.since.filled w r i
 
 -- ---- the horizon: the first instruction that loads an unfilled byte, or takes one as part of a name
-
--- a test holds at one of the n addresses from a on
-unfoldable pub any_from : (ℕ → Bool) → ℕ → ℕ → Bool
-any_from test a zero = false
-any_from test a (suc n) = test a || any_from test (a + 1) n
 
 -- whether an action loads one of these bytes, or takes one as part of a name
 abbrev pub touches : (ℕ → Bool) → Action → Bool

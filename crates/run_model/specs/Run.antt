@@ -11,7 +11,7 @@ use Rattle.spec_base.specs.declared.note.ShadowState.TheVariants.{Never}
 use Rattle.spec_base.specs.declared.note.Note.{Note}
 use Rattle.spec_base.specs.declared.spot.ReadSpot.{ReadSpot}
 use Rattle.rv_decode.specs.declared.instr.Instr.{Instr}
-use Rattle.rv_model.specs.Memory.{Memory}
+use Rattle.rv_model.specs.Memory.{Memory, zeros}
 use Rattle.rv_model.specs.Registers.{Registers, all_zero}
 use Rattle.program_model.specs.Descriptors.{Descriptors}
 use Rattle.program_model.specs.PlainRun.{State, Image, text_of}
@@ -123,10 +123,6 @@ pub record Run : Type 0 where
   -- what the last move told, and the bytes that its put took
   pub notes : List Note
   pub text : List ℕ
-
--- a part that nothing was stored to
-abbrev pub zeros : Memory
-zeros a = 0
 
 -- a shadow that was never restarted
 abbrev pub no_shadow : Descriptors → ShadowHart

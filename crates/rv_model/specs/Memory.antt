@@ -1,10 +1,14 @@
 -- A memory is a byte at each address. A number stands with its lowest byte first (RISC-V Unprivileged ISA 20191213, section 2.6).
-use Rattle.std.specs.Prelude.{ℕ, zero, suc, ◌+◌, ◌-◌, ◌*◌, Bool, true, false, ◌&&◌, List, [], ◌∷◌, length, get_or, nat_lt, nat_le}
+use Rattle.std.specs.Prelude.{ℕ, zero, suc, ◌+◌, ◌-◌, ◌*◌, Bool, true, false, ◌&&◌, ◌||◌, List, [], ◌∷◌, length, get_or, nat_lt, nat_le}
 use Rattle.spec_base.specs.Word.{byte_of}
 
 -- a byte at each address
 abbrev pub Memory : Type 0
 Memory = ℕ → ℕ
+
+-- a memory of zeros
+abbrev pub zeros : Memory
+zeros a = 0
 
 -- an address is one of n from base on
 abbrev pub is_within : ℕ → ℕ → ℕ → Bool
@@ -36,3 +40,8 @@ bytes_at m a (suc n) = m a ∷ bytes_at m (a + 1) n
 unfoldable pub all_from : (ℕ → Bool) → ℕ → ℕ → Bool
 all_from test a zero = true
 all_from test a (suc n) = test a && all_from test (a + 1) n
+
+-- a test holds at one of the n addresses from a on
+unfoldable pub any_from : (ℕ → Bool) → ℕ → ℕ → Bool
+any_from test a zero = false
+any_from test a (suc n) = test a || any_from test (a + 1) n

@@ -4,7 +4,7 @@ use Rattle.std.proofs.lemmas.Bool.Decides.{nat_tests}
 use Rattle.std.proofs.lemmas.Int.{ints}
 use Rattle.std.proofs.lemmas.Nat.Bits.{and_high_mask, and_pow}
 use Rattle.spec_base.specs.Word.{wrap, word_of_int}
-use Rattle.spec_base.specs.Layout.{is_lawful, image_limit, range_start}
+use Rattle.spec_base.specs.Layout.{is_lawful, image_limit, range_start, text_limit}
 use Rattle.spec_base.specs.declared.layout.Version.{Version}
 use Rattle.spec_base.specs.declared.layout.Version.TheVariants.{One, Two}
 use Rattle.spec_base.specs.declared.layout.Layout.{Layout}
@@ -27,7 +27,7 @@ pub record TextFits (l : Layout) : Type 0 where
   pub above : range_start ≤ l.text_start
   pub some : l.text_start < l.text_end
   pub below : l.text_end ≤ 0x3FF0_0000
-  pub few : l.text_end - l.text_start ≤ 1_048_576
+  pub few : l.text_end - l.text_start ≤ text_limit
   pub regions : 1 ≤ l.regions
   pub regions_few : l.regions ≤ 65_536
 

@@ -60,6 +60,24 @@ private_start = 0xFFFF_FFFF_FFFF_F800
 abbrev pub private_bytes : ℕ
 private_bytes = 2048
 
+-- ---- sizes
+
+-- the most bytes of a file that is read
+abbrev pub file_limit : ℕ
+file_limit = 67_108_864
+
+-- the most bytes of a text
+abbrev pub text_limit : ℕ
+text_limit = 1_048_576
+
+-- how many words the helpers have
+abbrev pub helper_words : ℕ
+helper_words = 282
+
+-- how many words the stub has
+abbrev pub stub_words : ℕ
+stub_words = 71
+
 -- ---- layouts
 
 -- whether a program can have this layout: a text of words of 4 bytes inside the range of segments, neither empty nor over 1 MiB, and 1 to 65,536 regions
@@ -67,5 +85,5 @@ abbrev pub is_lawful : Layout → Bool
 is_lawful l =
     (l.text_start % 4 == 0) && (l.text_end % 4 == 0)
     && nat_le range_start l.text_start && nat_lt l.text_start l.text_end && nat_le l.text_end (image_limit l.version)
-    && nat_le (l.text_end - l.text_start) 1_048_576
+    && nat_le (l.text_end - l.text_start) text_limit
     && nat_le 1 l.regions && nat_le l.regions 65_536

@@ -3,3 +3,4 @@ pub mod Park
 pub mod Padded
 pub mod Layout
 pub mod Files
+pub mod Listed

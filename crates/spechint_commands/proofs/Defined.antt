@@ -1,11 +1,12 @@
 -- The outcome where the store tells its files and no count rises.
+use Rattle.spec_base.specs.Layout.{file_limit}
 use Rattle.std.proofs.Common.{◌≡◌, ◌⊎◌, inl, inr, ℕ, ◌≤◌, Bool, true, false, nat_lt, List, length, arith, sym, ap, subst, refl, Some, None, Option, IfSome, Result, Ok, Err}
 use Rattle.std.proofs.lemmas.Bool.Decides.{nat_tests}
 use Rattle.spec_base.specs.Files.{Files}
 use Rattle.spec_base.specs.declared.layout.Version.TheVariants.{Two}
 use Rattle.world_io.specs.Outside.{StoreState, SinkState, Rose, Steady}
 use Rattle.world_io.specs.Texts.{PutsText}
-use Rattle.whole_file.specs.Reading.{ReadsWhole, SaysOf, file_limit}
+use Rattle.whole_file.specs.Reading.{ReadsWhole, SaysOf}
 use Rattle.whole_file.specs.declared.reading.ReadFault.{ReadFault}
 use Rattle.whole_file.specs.declared.reading.ReadFault.TheVariants as read
 use Rattle.elf_image.specs.Profile.{profile}

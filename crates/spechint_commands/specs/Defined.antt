@@ -1,10 +1,10 @@
 -- What the top call does where the store tells its files and no count of faults rises (this project's own).
+use Rattle.spec_base.specs.Layout.{file_limit}
 use Rattle.std.specs.Prelude.{◌≡◌, ◌⊎◌, ℕ, Bool, true, false, nat_lt, List, [], length, Option, Some, None, Result, Ok, Err}
 use Rattle.spec_base.specs.Files.{Files}
 use Rattle.spec_base.specs.declared.layout.Version.TheVariants.{Two}
 use Rattle.world_io.specs.Outside.{SinkState, Steady}
 use Rattle.world_io.specs.Texts.{PutsText}
-use Rattle.whole_file.specs.Reading.{file_limit}
 use Rattle.elf_image.specs.Profile.{profile}
 use Rattle.elf_image.specs.declared.image.Image.{Image}
 use Rattle.elf_image.specs.declared.refusal.Refusal.{Refusal}

@@ -1,4 +1,5 @@
 -- How far a file has been read.
+use Rattle.spec_base.specs.Layout.{file_limit}
 use Rattle.std.proofs.Common.{◌≡◌, inl, inr, ℕ, ◌+◌, ◌*◌, ◌≤◌, ◌<◌, true, false, List, [], ◌∷◌, ◌++◌, length, take, arith, sym, ap, subst, refl, ◌∙◌, Some, None, Option, IfSome, Ok, Err, add-one}
 use Rattle.std.proofs.Math.ListN.{replicate}
 use Rattle.std.proofs.lemmas.List.{take_all, length-replicate}
@@ -11,7 +12,7 @@ use Rattle.world_io.specs.Logs.{StoreLog}
 use Rattle.world_io.proofs.Stores.{call-StoreLog, none-StoreLog}
 use Rattle.world_io.specs.declared.store.Look.TheVariants.{Found, Absent}
 use Rattle.world_io.specs.declared.store.Fetch.TheVariants.{Got}
-use Rattle.whole_file.specs.Reading.{ReadsWhole, SaysOf, block_count, file_limit}
+use Rattle.whole_file.specs.Reading.{ReadsWhole, SaysOf, block_count}
 use Rattle.whole_file.specs.declared.reading.ReadFault.TheVariants.{Absent as ReadAbsent, TooLong, Failed as ReadFailed, NoMemory}
 
 -- the file as it is told, and what was read of it

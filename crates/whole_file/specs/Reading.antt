@@ -1,5 +1,6 @@
 -- The calls on the store by which a whole file is read, in their order (this project's own).
 use Rattle.std.specs.Prelude.{◌≡◌, ◌⊎◌, ℕ, ◌+◌, ◌/◌, ◌≤◌, ◌<◌, Bool, true, false, List, [], ◌∷◌, length, replicate, Option, Some, None, IfSome, Result, Ok, Err}
+use Rattle.spec_base.specs.Layout.{file_limit}
 use Rattle.world_io.specs.Outside.{StoreState}
 use Rattle.world_io.specs.Logs.{StoreLog}
 use Rattle.whole_file.specs.declared.reading.ReadFault.{ReadFault}
@@ -13,10 +14,6 @@ mapped f (Err e) = Err e
 -- how many blocks of 4,096 bytes a file of n bytes has
 abbrev pub block_count : ℕ → ℕ
 block_count n = (n + 4095) / 4096
-
--- the longest file that is fetched
-abbrev pub file_limit : ℕ
-file_limit = 67_108_864
 
 -- the calls that were made, newest first: a look, and then a fetch for each block, up to one that failed
 abbrev pub Calls : Result (List ℕ) ReadFault → List Bool → Type 0

@@ -1,6 +1,7 @@
 -- Logs of stores, call by call.
+use Rattle.spec_base.specs.Listed.{is_listed}
 use Rattle.std.proofs.Common.{◌≡◌, ℕ, ◌+◌, ◌-◌, ◌≤◌, ◌<◌, ◌^◌, min, Bool, true, false, List, [], ◌∷◌, ◌++◌, length, arith, ap, refl, ◌∙◌, Some, None, Option, IfSome, length-append}
-use Rattle.world_io.specs.Outside.{StoreState, Numbers, Rose, Steady, KeepsFiles, Counts, is_listed}
+use Rattle.world_io.specs.Outside.{StoreState, Numbers, Rose, Steady, KeepsFiles, Counts}
 use Rattle.world_io.specs.Logs.{StoreLog, AreListed, numbers_after, failures}
 use Rattle.world_io.specs.Looks.{look_failed}
 use Rattle.world_io.specs.Fetches.{fetch_failed}

@@ -1,6 +1,7 @@
 -- What the sinks in memory hold, and what a put does to them (this project's own).
+use Rattle.spec_base.specs.Listed.{is_listed}
 use Rattle.std.specs.Prelude.{◌≡◌, ℕ, ◌-◌, ◌<◌, ◌==◌, ◌||◌, Bool, true, false, List, [], ◌∷◌, ◌++◌, length, take, min, max, slice_get, Option, Some, None}
-use Rattle.world_io.specs.Outside.{SinkState, Sure, is_listed, next_number}
+use Rattle.world_io.specs.Outside.{SinkState, Sure, next_number}
 use Rattle.world_io.specs.declared.sink.Put.{Put}
 use Rattle.world_io.specs.declared.sink.Put.TheVariants.{Took, Failed}
 

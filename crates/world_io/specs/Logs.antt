@@ -1,8 +1,9 @@
 -- What a run of several calls did to a store or a sink, as a log of the calls (this project's own).
+use Rattle.spec_base.specs.Listed.{is_listed}
 use Rattle.std.specs.Prelude.{◌≡◌, ℕ, ◌+◌, ◌-◌, ◌^◌, ◌≤◌, ◌<◌, Bool, true, false, List, [], ◌∷◌, ◌++◌, length, take, min, map, Some, IfSome}
 use Rattle.std.specs.Option.{option_map}
 use Rattle.std.specs.List.{flat_map}
-use Rattle.world_io.specs.Outside.{StoreState, Numbers, SinkState, Endless, KeepsFiles, is_listed}
+use Rattle.world_io.specs.Outside.{StoreState, Numbers, SinkState, Endless, KeepsFiles}
 
 -- ---- stores: for each call, newest first, whether it failed
 

@@ -1,6 +1,6 @@
 -- What contracts see of a store and of a sink (this project's own).
+use Rattle.spec_base.specs.Listed.{is_listed}
 use Rattle.std.specs.Prelude.{◌≡◌, ℕ, ◌+◌, ◌-◌, ◌^◌, ◌≤◌, ◌<◌, ◌==◌, Bool, List, min, Option, Some, None, IfSome, if◌then◌else◌}
-use Rattle.std.specs.List.{list_any}
 use Rattle.std.specs.Option.{option_map}
 use Rattle.std.specs.Cmp.Lexicographic.{pointwise}
 use Rattle.spec_base.specs.Files.{Files}
@@ -82,10 +82,6 @@ faults_after faults failed = if failed then next_number faults else faults
 pub record KeepsFiles (old new : StoreState) : Type 0 where
   pub files : new.files ≡ old.files
   pub later : old.faults ≤ new.faults
-
--- the number is in the list
-abbrev pub is_listed : List ℕ → ℕ → Bool
-is_listed numbers n = list_any (λ k. k == n) numbers
 
 -- where the numbers are told, the call has the next number, and fails exactly where that is listed
 abbrev pub Counts : StoreState → Bool → StoreState → Type 0

@@ -1,6 +1,7 @@
 //! A store in memory, some of whose calls fail by their numbers.
+ghost use Rattle.spec_base.specs.Listed.{is_listed};
 ghost use Rattle.std.specs.Prelude.{◌≡◌, ◌≤◌, ◌<◌, ◌+◌, ◌-◌, ◌^◌, ℕ, length, min, OnOk, OnErr, Some, IfSome};
-ghost use Rattle.world_io.specs.Outside.{KeepsFiles, Rose, Counts, is_listed, faults_after, next_number, new_store, with_added};
+ghost use Rattle.world_io.specs.Outside.{KeepsFiles, Rose, Counts, faults_after, next_number, new_store, with_added};
 ghost use Rattle.world_io.specs.Looks.{LookSays, LookFits, look_failed};
 ghost use Rattle.world_io.specs.Fetches.{FetchSays, FetchFits, fetch_failed};
 

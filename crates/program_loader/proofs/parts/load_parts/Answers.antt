@@ -1,6 +1,7 @@
+use Rattle.rv_model.specs.Memory.{zeros}
 use Rattle.std.proofs.Common.{◌≡◌, suc, ◌+◌, ◌≤◌, length, map, take, slice_index_or, ap, sym, ◌∙◌, subst, arith}
 use Rattle.spec_base.specs.Layout.{image_limit}
-use Rattle.program_model.specs.Loading.{data_of, with_parts, no_bytes}
+use Rattle.program_model.specs.Loading.{data_of, with_parts}
 use Rattle.elf_image.specs.Image.{IsPlaced}
 use Rattle.hart_mem.specs.Held.{space_of}
 use Rattle.program_loader.specs.Programs.{part_of}
@@ -20,7 +21,7 @@ loop-segment-preserved c =
     let place : suc c.loop-segment.segment-index ≡ c.loop-segment.segment-index + 1 = omega arith in
     next-part (space_of c.args.mem.now) (space_of c.loop-segment.mem) (space_of c.load_segment.new.mem) (map (part_of c.args.bytes.now) (take c.loop-segment.segment-index c.args.segments.now)) _
     c.loop-segment.invariant c.in_ok-load_segment.ensures
-    ∙ ap (λ ps. record (space_of c.args.mem.now) { program = data_of (space_of c.args.mem.now).layout (with_parts no_bytes ps) })
+    ∙ ap (λ ps. record (space_of c.args.mem.now) { program = data_of (space_of c.args.mem.now).layout (with_parts zeros ps) })
     (map-more (part_of c.args.bytes.now) c.args.segments.now c.loop-segment.segment-index _ c.loop-segment-test.true
     ∙ ap (λ n. map (part_of c.args.bytes.now) (take n c.args.segments.now)) place)
 
@@ -28,5 +29,5 @@ pub returns : goal.returns
 returns c =
     let over : length c.args.segments.now ≤ c.loop-segment.segment-index = omega (arith, c.loop-segment-test.false) in
     c.loop-segment.invariant
-    ∙ ap (λ xs. record (space_of c.args.mem.now) { program = data_of (space_of c.args.mem.now).layout (with_parts no_bytes (map (part_of c.args.bytes.now) xs)) })
+    ∙ ap (λ xs. record (space_of c.args.mem.now) { program = data_of (space_of c.args.mem.now).layout (with_parts zeros (map (part_of c.args.bytes.now) xs)) })
     (take-whole c.args.segments.now c.loop-segment.segment-index over)

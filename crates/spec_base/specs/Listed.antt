@@ -1,0 +1,7 @@
+-- Lists of numbers (this project's own).
+use Rattle.std.specs.Prelude.{ℕ, ◌==◌, Bool, List}
+use Rattle.std.specs.List.{list_any}
+
+-- the number is in the list
+abbrev pub is_listed : List ℕ → ℕ → Bool
+is_listed numbers n = list_any (λ k. k == n) numbers
