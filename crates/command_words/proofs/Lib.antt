@@ -1,0 +1,5 @@
+pub mod Steps
+pub mod ValueLaws
+pub mod WordLaws
+pub mod LimitLaws
+pub mod Rows
