@@ -218,6 +218,65 @@ fn a_failed_fetch_is_a_fault_only_where_it_is_waited_for(rt: HostRuntime) -> Res
     run(&rt, alloc, 2, 2, vec![in alloc; 1, 2]?, &steps)
 }
 
+// A file of so many bytes, each of them 7.
+fn sevens(alloc: Global, count: usize) -> Result<Vec<u8>, AllocError>
+    requires { count < 2 ^ 20 }
+    ensures { IfOk result (λ v. length v.items < 2 ^ 56) }
+{
+    vec![in alloc; 7; count]
+}
+
+// What comes of a fetch of a block of such a file, and the block's first and last byte.
+fn fetched(alloc: Global, count: usize, block: u64) -> Result<(Finished, u8, u8), Fail>
+    requires { count < 2 ^ 20 }
+{
+    let name = file_name()?;
+    let mut store = MemStore::new(alloc, Vec::new(alloc));
+    store.add(name, &sevens(alloc, count)?)?;
+    let mut cache = Cache::new(alloc, 1, 1)?;
+    let mut into = [9; 4096];
+    let _ = cache.need(of(&name, block), &mut into);
+    let finished = cache.finish(&mut store, &mut into);
+    Ok((finished, into[0], into[4095]))
+}
+
+#[test]
+fn the_block_behind_the_end_has_no_bytes(rt: HostRuntime) -> Result<(), Fail> {
+    let name = file_name()?;
+    let rows = [
+        (0usize, 0u64, 0u8, 0u8),
+        (4095, 0, 7, 0),
+        (4096, 0, 7, 7),
+        (4096, 1, 0, 0),
+        (4097, 1, 7, 0),
+        (8192, 1, 7, 7),
+        (8192, 2, 0, 0),
+        (8192, 9, 0, 0),
+    ];
+    for (count, block, first, last) in rows {
+        assert!(rt; count < 1_048_576);
+        assert_eq!(rt;
+            fetched(rt.alloc(), count, block)?,
+            (Finished::Put(of(&name, block)), first, last)
+        );
+    }
+    Ok(())
+}
+
+// The pool of a cache of two blocks has three frames at most, so each block that leaves has to give
+// its frame back.
+#[test]
+fn many_blocks_pass_through_two_places(rt: HostRuntime) -> Result<(), Fail> {
+    let alloc = rt.alloc();
+    let mut steps = Vec::new(alloc);
+    for block in 0..40u64 {
+        steps.push(Wait(block % 8))?;
+        steps.push(Put(block % 8))?;
+        steps.push(Ready(block % 8))?;
+    }
+    run(&rt, alloc, 2, 1, Vec::new(alloc), &steps)
+}
+
 // The lists of a cache, plainly.
 #[derive(Drop)]
 struct Lists {

@@ -1,21 +1,49 @@
 //! The edges of each part of a memory in each view, and each call on its happy path. The
 //! expected values are those of the layout's table.
 
+ghost use Rattle.std.specs.Prelude.{◌≡◌};
+
 use crate::{Access, Bytes, Mem, StoreFault, Width};
 use spec_base::{Layout, NoMemory, Version, View};
 use std::alloc::Global;
 use std::process::Abort;
 
-// A memory with a text of four words from 0x1_0004 on, and 3 regions, with 17 spare frames.
-fn made(alloc: Global, version: Version) -> Result<Mem, NoMemory> {
-    let layout = Layout {
+// The first and the last byte of the link, the table, the list, the copies and the private page,
+// with 3 regions.
+const EDGES: [u64; 10] = [
+    0x4200_0000,
+    0x4200_1FFF,
+    0x4300_0000,
+    0x43FF_FFFF,
+    0x4400_0000,
+    0x4400_0017,
+    0x4500_0000,
+    0x4500_02FF,
+    0xFFFF_FFFF_FFFF_F800,
+    0xFFFF_FFFF_FFFF_FFFF,
+];
+
+// A text of four words from 0x1_0004 on, and 3 regions.
+fn layout(version: Version) -> Layout
+    ensures { result ≡ record { text_start = 0x1_0004; text_end = 0x1_0014; regions = 3; version = version } }
+{
+    Layout {
         text_start: 0x1_0004,
         text_end: 0x1_0014,
         regions: 3,
         version,
-    };
+    }
+}
+
+// A memory with this layout and no spare frame.
+fn empty(alloc: Global, version: Version) -> Result<Mem, NoMemory> {
     let text = vec![in alloc; 0x0403_0201, 5, 6, 0x0807_0605]?;
-    let mut mem = Mem::new(alloc, layout, text)?;
+    Mem::new(alloc, layout(version), text)
+}
+
+// The same with 17 spare frames.
+fn made(alloc: Global, version: Version) -> Result<Mem, NoMemory> {
+    let mut mem = empty(alloc, version)?;
     mem.reserve(17)?;
     Ok(mem)
 }
@@ -74,6 +102,8 @@ fn the_stub_touches_link_and_page(rt: HostRuntime) {
         0x41FF_FFFF,
         0x4200_2000,
         0x4300_0000,
+        0x4400_0000,
+        0x4500_0000,
         0xFFFF_FFFF_FFFF_F7FF,
     ];
     assert!(rt; all_touched(&mut mem, View::Stub, &own, true, true));
@@ -85,28 +115,56 @@ fn the_shadow_touches_its_parts(rt: HostRuntime) {
     let Ok(mut mem) = made(rt.alloc(), Version::Two) else {
         panic!(rt; "no memory");
     };
-    let shared = [
-        0x4200_1FFF,
-        0x4300_0000,
-        0x43FF_FFFF,
-        0x4400_0000,
-        0x4400_0017,
-        0x4500_0000,
-        0x4500_02FF,
-        0xFFFF_FFFF_FFFF_FFFF,
-    ];
     let loaded = [0x1000, 0x1_0004, 0x3FFF_FFFF];
     let out = [
         0xFFF,
         0x4000_0000,
+        0x41FF_FFFF,
         0x4200_2000,
         0x42FF_FFFF,
         0x4400_0018,
+        0x44FF_FFFF,
         0x4500_0300,
+        0xFFFF_FFFF_FFFF_F7FF,
     ];
-    assert!(rt; all_touched(&mut mem, View::Shadow, &shared, true, true));
+    assert!(rt; all_touched(&mut mem, View::Shadow, &EDGES, true, true));
     assert!(rt; all_touched(&mut mem, View::Shadow, &loaded, true, false));
     assert!(rt; all_touched(&mut mem, View::Shadow, &out, false, false));
+}
+
+// Stores a number of its own in each of these bytes, and then loads all of them again.
+fn keeps_apart(mem: &mut Mem, addresses: &[u64]) -> bool {
+    for (i, address) in addresses.iter().enumerate() {
+        let number = i as u64 % 255 + 1;
+        if mem.store(View::Shadow, *address, Width::One, number) != Ok(()) {
+            return false;
+        }
+    }
+    for (i, address) in addresses.iter().enumerate() {
+        if mem.load(View::Shadow, *address, Width::One) != Ok(i as u64 % 255 + 1) {
+            return false;
+        }
+    }
+    true
+}
+
+// The link is one, and each of the two has a private page of its own.
+fn stub_has_its_own_page(mem: &mut Mem) -> bool {
+    mem.load(View::Stub, 0x4200_0000, Width::One) == Ok(1)
+        && mem.load(View::Stub, 0x4200_1FF8, Width::Eight) == Ok(2 << 56)
+        && mem.load(View::Stub, 0xFFFF_FFFF_FFFF_F800, Width::Eight) == Ok(0)
+        && mem.load(View::Stub, 0xFFFF_FFFF_FFFF_FFF8, Width::Eight) == Ok(0)
+        && mem.store(View::Stub, 0xFFFF_FFFF_FFFF_FFF8, Width::Eight, 3) == Ok(())
+        && mem.load(View::Shadow, 0xFFFF_FFFF_FFFF_FFF8, Width::Eight) == Ok(10 << 56)
+}
+
+#[test]
+fn no_two_parts_share_a_byte(rt: HostRuntime) {
+    let Ok(mut mem) = made(rt.alloc(), Version::Two) else {
+        panic!(rt; "no memory");
+    };
+    assert!(rt; keeps_apart(&mut mem, &EDGES));
+    assert!(rt; stub_has_its_own_page(&mut mem));
 }
 
 #[test]
@@ -164,6 +222,27 @@ fn takes_a_page_at_its_first_store(rt: HostRuntime) {
     assert_eq!(rt; mem.spare(), 0);
 }
 
+// With no spare frame a store in a page that has none is refused, after the other causes; the
+// pages that aren't the program range's have their frames from the start.
+fn refuses_a_page(mem: &mut Mem) -> bool {
+    mem.store(View::Plain, 0x2_0001, Width::Two, 1) == Err(StoreFault::Unaligned)
+        && mem.store(View::Plain, 0x1_0004, Width::Four, 1) == Err(StoreFault::Out)
+        && mem.store(View::Plain, 0x2_0000, Width::Eight, 1) == Err(StoreFault::NoMemory)
+        && mem.load(View::Plain, 0x2_0000, Width::Eight) == Ok(0)
+        && mem.store(View::Stub, 0x4200_0000, Width::Eight, 1) == Ok(())
+        && mem.store(View::Shadow, 0x4500_02F8, Width::Eight, 1) == Ok(())
+}
+
+#[test]
+fn no_spare_frame_refuses_a_first_store(rt: HostRuntime) {
+    let Ok(mut mem) = empty(rt.alloc(), Version::Two) else {
+        panic!(rt; "no memory");
+    };
+    assert_eq!(rt; mem.spare(), 0);
+    assert!(rt; refuses_a_page(&mut mem));
+    assert_eq!(rt; mem.spare(), 0);
+}
+
 // The text begins at 4 modulo 8: of eight bytes that the shadow loads a half can be data.
 fn loads_halves_of_text(mem: &mut Mem) -> bool {
     mem.store(View::Program, 0x1_0000, Width::Four, 0x0908_0706) == Ok(())
@@ -183,4 +262,91 @@ fn the_shadow_loads_text(rt: HostRuntime) {
         panic!(rt; "no memory");
     };
     assert!(rt; loads_halves_of_text(&mut mem));
+}
+
+// A memory with the bytes 1 to 8 over a page's end.
+fn filled(alloc: Global) -> Result<Mem, NoMemory> {
+    let mut mem = Mem::new(alloc, layout(Version::Two), vec![in alloc; 1, 2, 3, 4]?)?;
+    mem.fill(0x2_0FFC, &[1, 2, 3, 4, 5, 6, 7, 8])?;
+    mem.fill(0x2_1000, b"")?;
+    Ok(mem)
+}
+
+fn has_both_pages(mem: &Mem) -> bool {
+    mem.load(View::Plain, 0x2_0FF8, Width::Eight) == Ok(0x0403_0201_0000_0000)
+        && mem.load(View::Plain, 0x2_1000, Width::Eight) == Ok(0x0807_0605)
+        && mem.byte(0x2_0FFF) == Some(4)
+        && mem.byte(0x2_1000) == Some(5)
+}
+
+#[test]
+fn fills_over_the_end_of_a_page(rt: HostRuntime) {
+    let Ok(mem) = filled(rt.alloc()) else {
+        panic!(rt; "no memory");
+    };
+    assert!(rt; has_both_pages(&mem));
+}
+
+// A part that begins two bytes before the text and ends two bytes behind it.
+fn loaded(alloc: Global) -> Result<Mem, NoMemory> {
+    let mut mem = Mem::new(alloc, layout(Version::Two), vec![in alloc; 1, 2, 3, 4]?)?;
+    mem.load_part(0x1_0002, &[9; 20])?;
+    Ok(mem)
+}
+
+fn has_the_part_around_the_text(mem: &Mem) -> bool {
+    mem.load(View::Plain, 0x1_0000, Width::Four) == Ok(0x0909_0000)
+        && mem.load(View::Plain, 0x1_0014, Width::Four) == Ok(0x0909)
+        && mem.load(View::Shadow, 0x1_0000, Width::Eight) == Ok(0x0000_0001_0909_0000)
+        && mem.fetch(View::Plain, 0x1_0004) == Some(1)
+        && mem.fetch(View::Plain, 0x1_0010) == Some(4)
+        && mem.byte(0x1_0003) == Some(9)
+        && mem.byte(0x1_0004) == None
+        && mem.byte(0x1_0015) == Some(9)
+}
+
+#[test]
+fn loads_a_part_around_the_text(rt: HostRuntime) {
+    let Ok(mem) = loaded(rt.alloc()) else {
+        panic!(rt; "no memory");
+    };
+    assert!(rt; has_the_part_around_the_text(&mem));
+}
+
+// Code of ones, twos and threes: 16 words for each of the text's four and for the guard block, the
+// helpers, and the stub.
+fn with_code(alloc: Global) -> Result<Mem, NoMemory> {
+    let mut mem = Mem::new(alloc, layout(Version::Two), vec![in alloc; 1, 2, 3, 4]?)?;
+    let shadow = vec![in alloc; 1; 80]?;
+    let helpers = vec![in alloc; 2; 282]?;
+    let stub = vec![in alloc; 3; 71]?;
+    mem.set_code(shadow, helpers, stub);
+    Ok(mem)
+}
+
+// The first and the last word of each part of the code, and the places behind them.
+fn fetches_code(mem: &Mem, shadow: u32, helper: u32, stub: u32) -> bool {
+    mem.fetch(View::Shadow, 0x4000_0000) == Some(shadow)
+        && mem.fetch(View::Shadow, 0x4000_013C) == Some(shadow)
+        && mem.fetch(View::Shadow, 0x4000_0140) == None
+        && mem.fetch(View::Shadow, 0x4110_0000) == Some(helper)
+        && mem.fetch(View::Shadow, 0x4110_0464) == Some(helper)
+        && mem.fetch(View::Shadow, 0x4110_0468) == None
+        && mem.fetch(View::Stub, 0x4180_0000) == Some(stub)
+        && mem.fetch(View::Stub, 0x4180_0118) == Some(stub)
+        && mem.fetch(View::Stub, 0x4180_011C) == None
+        && mem.fetch(View::Stub, 0x4180_0002) == None
+        && mem.fetch(View::Plain, 0x4000_0000) == None
+}
+
+#[test]
+fn fetches_the_code_that_is_given(rt: HostRuntime) {
+    let Ok(before) = made(rt.alloc(), Version::Two) else {
+        panic!(rt; "no memory");
+    };
+    let Ok(mem) = with_code(rt.alloc()) else {
+        panic!(rt; "no memory");
+    };
+    assert!(rt; fetches_code(&before, 0, 0, 0));
+    assert!(rt; fetches_code(&mem, 1, 2, 3));
 }
