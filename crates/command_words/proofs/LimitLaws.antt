@@ -2,7 +2,7 @@
 use Rattle.std.proofs.Common.{◌≡◌, ℕ, ◌+◌, ◌*◌, ◌-◌, ◌≤◌, Bool, true, false, List, [], ◌∷◌, ◌++◌, length, refl, sym, subst, arith, All, IfSome, length-append, ◌⊎◌, inl, inr}
 use Rattle.std.specs.Prelude.{Option, Some, None, option_map, option_and_then, unwrap_or, ◌&&◌, nat_le, if◌then◌else◌, ◌==◌, codes, bytes_eq}
 use Rattle.std.specs.Char.{is_ascii_digit}
-use Rattle.std.specs.List.{list_any, before_first, after_first}
+use Rattle.std.specs.List.{list_any, before_first, after_first, sum_by}
 use Rattle.std.specs.Str.Parse.{digits_value}
 use Rattle.std.proofs.lemmas.Bool.{leb-true}
 use Rattle.std.proofs.lemmas.List.Elements.{All-push, All-nil, All-cons}
@@ -275,6 +275,7 @@ are_arguments-keeps command (first ∷ words) held =
     record {
       count = (some, most-64 (is_single command) (length (first ∷ words)) few);
       name = (leb-true 1 (length first) (and-left _ _ name), leb-true (length first) 255 (and-right _ _ name));
+      short = leb-true (sum_by (λ word. length word + 1) (first ∷ words)) 65_536 (and-right _ _ held);
     }
 
 number_for-most : (command : Command) (words : List (List ℕ)) (n : ℕ) → number_for command words ≡ Some n → n ≤ 200_000

@@ -1,3 +1,5 @@
-mod Steps
+mod Blocks
+mod Memories
 mod CallLemmas
+mod Steps
 mod RunLogs

@@ -1,50 +1,74 @@
 -- How far a run has come.
-use Rattle.std.proofs.Common.{◌≡◌, inl, inr, ℕ, zero, suc, List, [], ◌∷◌, ◌++◌, length, map, slice_get, Some, None, refl, ap, sym, ◌∙◌, subst}
-use Rattle.std.specs.Prelude.{unwrap_or}
-use Rattle.std.proofs.lemmas.List.{append-nil, map-append}
+use Rattle.std.proofs.Common.{◌≡◌, inl, inr, ℕ, zero, suc, ◌+◌, ◌<◌, true, false, List, [], ◌∷◌, ◌++◌, length, map, slice_get, Some, None, refl, ap, sym, ◌∙◌, subst, arith}
+use Rattle.std.specs.Prelude.{unwrap_or, All}
+use Rattle.std.proofs.Math.ListN.{replicate}
+use Rattle.std.proofs.lemmas.List.{append-nil, map-append, replicate-append-replicate}
+use Rattle.std.proofs.lemmas.List.Elements.{All-nil, All-cons, All-head, All-tail, All-append}
 use Rattle.spec_base.specs.Files.{Files}
 use Rattle.rv_model.specs.Space.{Space}
 use Rattle.program_model.specs.Descriptors.{Descriptors}
 use Rattle.program_model.specs.PlainRun.{State, Image as Program, Taken, Output, put, plain_state, state_after, next_state}
-use Rattle.world_io.specs.Outside.{SinkState, Rose}
-use Rattle.world_io.specs.Logs.{Piece, SinkLog, sizes}
+use Rattle.world_io.specs.Outside.{StoreState, SinkState, Rose}
+use Rattle.world_io.specs.Logs.{Piece, StoreLog, SinkLog, sizes}
 use Rattle.world_io.proofs.Sinks.{append-SinkLog, none-SinkLog, bytes_of-more}
+use Rattle.world_io.proofs.Stores.{append-StoreLog, none-StoreLog, failed-Rose}
 use Rattle.hart_step.specs.Core.{Core}
 use Rattle.plain_runner.specs.declared.ending.Ending.{Ending}
-use Rattle.plain_runner.specs.declared.ending.Ending.TheVariants.{Exited, Trapped, TurnsOver, NotBuilt, SinkFault, NoMemory}
-use Rattle.plain_runner.specs.Runs.{output_of, AgreeOn, Agrees, EndsBy, HasSinkCause, RunsTo}
-use Rattle.plain_runner.specs.Turns.{Shows, IsStart, Completes, without_put, puts_out, puts_err, piece, GoesOn, Stops}
+use Rattle.plain_runner.specs.declared.ending.Ending.TheVariants.{Exited, Trapped, TurnsOver, StoreFault, SinkFault, NoMemory}
+use Rattle.plain_runner.specs.StoreCalls.{next_calls, state_calls, calls_until}
+use Rattle.plain_runner.specs.Answers.{Answer, Answers}
+use Rattle.plain_runner.specs.Runs.{Outside, Shows, output_of, AgreeOn, Agrees, EndsBy, CallsStore, HasSinkCause, Reaches, RunsTo}
+use Rattle.plain_runner.specs.Turns.{IsStart, Completes, alone, asks, puts_out, puts_err, piece, GoesOn, Stops, LastCalls}
 
 -- a state was reached by completed instructions, and what it put is what the sinks took
-pub record RunLog (p : Program) (out err : SinkState) (n : ℕ) (core : Core) (space : Space) (f : Descriptors) (out_now err_now : SinkState) : Type 0 where
+pub record RunLog (p : Program) (old : Outside) (n : ℕ) (core : Core) (space : Space) (f : Descriptors) (now : Outside) : Type 0 where
   pub state : State
+  pub calls : ℕ
+  pub answers : List Answer
   pub outs : List Piece
   pub errs : List Piece
-  pub reached : (files : Files) (t : Taken) → Agrees t outs errs → plain_state p files t n ≡ Some state
+  pub reached : (files : Files) (t : Taken) → All (Answers files) answers → Agrees t outs errs → Reaches p files t n state calls
+  pub told : (files : Files) → old.store.files ≡ Some files → All (Answers files) answers
   pub shows : Shows p core space f state
   pub out_is : state.out ≡ output_of outs
   pub err_is : state.err ≡ output_of errs
-  pub out_log : SinkLog out outs out_now
-  pub err_log : SinkLog err errs err_now
-  pub out_steady : out_now.faults ≡ out.faults
-  pub err_steady : err_now.faults ≡ err.faults
+  pub store_log : StoreLog old.store (replicate calls false) now.store
+  pub out_log : SinkLog old.out outs now.out
+  pub err_log : SinkLog old.err errs now.err
+  pub out_steady : now.out.faults ≡ old.out.faults
+  pub err_steady : now.err.faults ≡ old.err.faults
 
-pub first-RunLog : (p : Program) (core : Core) (space : Space) (f : Descriptors) (out err : SinkState) → IsStart p core space f → RunLog p out err 0 core space f out err
-unfolding state_after
-first-RunLog p core space f out err start =
+pub first-RunLog : (p : Program) (core : Core) (space : Space) (f : Descriptors) (o : Outside) → IsStart p core space f → RunLog p o 0 core space f o
+unfolding state_after calls_until
+first-RunLog p core space f o start =
     record {
       state = p.start;
+      calls = 0;
+      answers = [];
       outs = [];
       errs = [];
-      reached = λ files t agrees. refl;
+      reached = λ files t answers agrees. record { state = refl; calls = refl };
+      told = λ files e. All-nil (Answers files);
       shows = start.shows;
       out_is = start.out;
       err_is = start.err;
-      out_log = none-SinkLog out;
-      err_log = none-SinkLog err;
+      store_log = none-StoreLog o.store;
+      out_log = none-SinkLog o.out;
+      err_log = none-SinkLog o.err;
       out_steady = refl;
       err_steady = refl;
     }
+
+-- ---- answers
+
+-- what is true of all answers is true of the earlier ones, and of the last
+earlier : (files : Files) (xs ys : List Answer) → All (Answers files) (xs ++ ys) → All (Answers files) xs
+earlier files [] ys h = All-nil (Answers files)
+earlier files (x ∷ xs) ys h = All-cons (Answers files) x xs (All-head (Answers files) x (xs ++ ys) h) (earlier files xs ys (All-tail (Answers files) x (xs ++ ys) h))
+
+later : (files : Files) (xs ys : List Answer) → All (Answers files) (xs ++ ys) → All (Answers files) ys
+later files [] ys h = h
+later files (x ∷ xs) ys h = later files xs ys (All-tail (Answers files) x (xs ++ ys) h)
 
 -- ---- counts of puts
 
@@ -82,7 +106,7 @@ no-more o pieces e = e ∙ ap output_of (sym (append-nil pieces))
 
 -- ---- a turn that goes on
 
-module _ (p : Program) (out err : SinkState) (n : ℕ) (core : Core) (space : Space) (f : Descriptors) (out_now err_now : SinkState) (log : RunLog p out err n core space f out_now err_now) where
+module _ (p : Program) (old : Outside) (n : ℕ) (core : Core) (space : Space) (f : Descriptors) (now : Outside) (log : RunLog p old n core space f now) where
   -- the place of the next put among the counts
   out-place : length log.state.out.puts ≡ length log.outs
   out-place = ap (λ o. length o.puts) log.out_is ∙ puts-count log.outs
@@ -91,55 +115,82 @@ module _ (p : Program) (out err : SinkState) (n : ℕ) (core : Core) (space : Sp
   err-place = ap (λ o. length o.puts) log.err_is ∙ puts-count log.errs
 
   -- one instruction more
-  one-more : (next : State) (files : Files) (t : Taken) → plain_state p files t n ≡ Some log.state → next_state p files t log.state ≡ Some next
-      → plain_state p files t (suc n) ≡ Some next
-  unfolding state_after
-  one-more next files t was step = rw was step
+  one-more : (next : State) (files : Files) (t : Taken) → Reaches p files t n log.state log.calls → next_state p files t log.state ≡ Some next
+      → Reaches p files t (suc n) next (log.calls + next_calls p log.state)
+  unfolding state_after calls_until
+  one-more next files t was step =
+      record {
+        state = rw was.state step;
+        calls = ap (λ k. k + state_calls p (plain_state p files t n)) was.calls ∙ ap (λ s. log.calls + state_calls p s) was.state;
+      }
 
   -- what a completed instruction makes of the log
-  pub record Longer (next : State) (outs errs : List Piece) : Type 0 where
-    pub reached : (files : Files) (t : Taken) → Agrees t (log.outs ++ outs) (log.errs ++ errs) → plain_state p files t (suc n) ≡ Some next
+  pub record Longer (next : State) (answers : List Answer) (outs errs : List Piece) : Type 0 where
+    pub reached : (files : Files) (t : Taken) → All (Answers files) (log.answers ++ answers) → Agrees t (log.outs ++ outs) (log.errs ++ errs)
+        → Reaches p files t (suc n) next (log.calls + next_calls p log.state)
     pub out_is : next.out ≡ output_of (log.outs ++ outs)
     pub err_is : next.err ≡ output_of (log.errs ++ errs)
 
-  longer : (next : State) (outs errs : List Piece) → Completes p log.state next outs errs → Longer next outs errs
-  longer next outs errs (without_put steps o e) =
+  -- what was reached before
+  before : (answers : List Answer) (outs errs : List Piece) (files : Files) (t : Taken) → All (Answers files) (log.answers ++ answers) → Agrees t (log.outs ++ outs) (log.errs ++ errs)
+      → Reaches p files t n log.state log.calls
+  before answers outs errs files t true_of agrees =
+      log.reached files t (earlier files log.answers answers true_of) (record { out = agree-earlier t.out log.outs outs agrees.out; err = agree-earlier t.err log.errs errs agrees.err })
+
+  longer : (next : State) (answers : List Answer) (outs errs : List Piece) → Completes p log.state next answers outs errs → Longer next answers outs errs
+  longer next answers outs errs (alone steps o e) =
       record {
-        reached = λ files t agrees. one-more next files t (log.reached files t (record { out = agree-earlier t.out log.outs [] agrees.out; err = agree-earlier t.err log.errs [] agrees.err })) (steps files t);
+        reached = λ files t true_of agrees. one-more next files t (before [] [] [] files t true_of agrees) (steps files t);
         out_is = no-more next.out log.outs (o ∙ log.out_is);
         err_is = no-more next.err log.errs (e ∙ log.err_is);
       }
-  longer next outs errs (puts_out offered k steps o e) =
+  longer next answers outs errs (asks answer steps o e) =
       record {
-        reached = λ files t agrees.
-            one-more next files t (log.reached files t (record { out = agree-earlier t.out log.outs (piece offered k ∷ []) agrees.out; err = agree-earlier t.err log.errs [] agrees.err }))
+        reached = λ files t true_of agrees.
+            one-more next files t (before (answer ∷ []) [] [] files t true_of agrees) (steps files t (All-head (Answers files) answer [] (later files log.answers (answer ∷ []) true_of)));
+        out_is = no-more next.out log.outs (o ∙ log.out_is);
+        err_is = no-more next.err log.errs (e ∙ log.err_is);
+      }
+  longer next answers outs errs (puts_out offered k steps o e) =
+      record {
+        reached = λ files t true_of agrees.
+            one-more next files t (before [] (piece offered k ∷ []) [] files t true_of agrees)
             (steps files t (ap (λ i. unwrap_or (slice_get t.out i) (length offered)) out-place ∙ agree-last t.out log.outs offered k agrees.out));
         out_is = o ∙ put-output log.state.out log.outs offered k log.out_is;
         err_is = no-more next.err log.errs (e ∙ log.err_is);
       }
-  longer next outs errs (puts_err offered k steps o e) =
+  longer next answers outs errs (puts_err offered k steps o e) =
       record {
-        reached = λ files t agrees.
-            one-more next files t (log.reached files t (record { out = agree-earlier t.out log.outs [] agrees.out; err = agree-earlier t.err log.errs (piece offered k ∷ []) agrees.err }))
+        reached = λ files t true_of agrees.
+            one-more next files t (before [] [] (piece offered k ∷ []) files t true_of agrees)
             (steps files t (ap (λ i. unwrap_or (slice_get t.err i) (length offered)) err-place ∙ agree-last t.err log.errs offered k agrees.err));
         out_is = no-more next.out log.outs (o ∙ log.out_is);
         err_is = e ∙ put-output log.state.err log.errs offered k log.err_is;
       }
 
-  pub turn-RunLog : (core_new : Core) (space_new : Space) (f_new : Descriptors) (out_new err_new : SinkState)
-      → GoesOn p log.state out_now err_now core_new space_new f_new out_new err_new → RunLog p out err (suc n) core_new space_new f_new out_new err_new
-  turn-RunLog core_new space_new f_new out_new err_new turn =
-      let more = longer turn.next turn.outs turn.errs turn.completes in
+  -- calls after those of the log, none of which failed
+  after_calls : (more : ℕ) → replicate more false ++ replicate log.calls false ≡ replicate (log.calls + more) false
+  after_calls more = let count : more + log.calls ≡ log.calls + more = omega arith in replicate-append-replicate more log.calls false ∙ ap (λ k. replicate k false) count
+
+  pub turn-RunLog : (core_new : Core) (space_new : Space) (f_new : Descriptors) (new : Outside)
+      → GoesOn p log.state now core_new space_new f_new new → RunLog p old (suc n) core_new space_new f_new new
+  turn-RunLog core_new space_new f_new new turn =
+      let more = longer turn.next turn.answers turn.outs turn.errs turn.completes in
       record {
         state = turn.next;
+        calls = log.calls + next_calls p log.state;
+        answers = log.answers ++ turn.answers;
         outs = log.outs ++ turn.outs;
         errs = log.errs ++ turn.errs;
         reached = more.reached;
+        told = λ files e. All-append (Answers files) log.answers turn.answers (log.told files e) (turn.told files (log.store_log.keeps.files ∙ e));
         shows = turn.shows;
         out_is = more.out_is;
         err_is = more.err_is;
-        out_log = append-SinkLog out out_now out_new log.outs turn.outs log.out_log turn.out_log;
-        err_log = append-SinkLog err err_now err_new log.errs turn.errs log.err_log turn.err_log;
+        store_log = subst (λ l. StoreLog old.store l new.store) (after_calls (next_calls p log.state))
+            (append-StoreLog old.store now.store new.store (replicate log.calls false) (replicate (next_calls p log.state) false) log.store_log turn.store_log);
+        out_log = append-SinkLog old.out now.out new.out log.outs turn.outs log.out_log turn.out_log;
+        err_log = append-SinkLog old.err now.err new.err log.errs turn.errs log.err_log turn.err_log;
         out_steady = turn.out_steady ∙ log.out_steady;
         err_steady = turn.err_steady ∙ log.err_steady;
       }
@@ -149,66 +200,113 @@ module _ (p : Program) (out err : SinkState) (n : ℕ) (core : Core) (space : Sp
   same-log : (a b c : SinkState) (ps : List Piece) → SinkLog a ps b → SinkLog b [] c → SinkLog a ps c
   same-log a b c ps one two = subst (λ qs. SinkLog a qs c) (append-nil ps) (append-SinkLog a b c ps [] one two)
 
-  cause-along : (out_new err_new : SinkState) (e : Ending) → HasSinkCause out_now err_now e out_new err_new → HasSinkCause out err e out_new err_new
-  cause-along out_new err_new (Exited code) h = (h.0 ∙ log.out_steady, h.1 ∙ log.err_steady)
-  cause-along out_new err_new (Trapped cause pc) h = (h.0 ∙ log.out_steady, h.1 ∙ log.err_steady)
-  cause-along out_new err_new (TurnsOver count) h = (h.0 ∙ log.out_steady, h.1 ∙ log.err_steady)
-  cause-along out_new err_new NotBuilt h = (h.0 ∙ log.out_steady, h.1 ∙ log.err_steady)
-  cause-along out_new err_new NoMemory h = (h.0 ∙ log.out_steady, h.1 ∙ log.err_steady)
-  cause-along out_new err_new SinkFault h =
-      elim h [ inl r ↦ inl (subst (λ m. Rose m out_new.faults) log.out_steady r) | inr r ↦ inr (subst (λ m. Rose m err_new.faults) log.err_steady r) ]
+  no-more-calls : (new : StoreState) → StoreLog now.store [] new → StoreLog old.store (replicate log.calls false) new
+  no-more-calls new last = append-StoreLog old.store now.store new (replicate log.calls false) [] log.store_log last
+
+  called-along : (new : StoreState) (e : Ending) → LastCalls p log.state e now.store new → CallsStore p log.state e log.calls old.store new
+  called-along new StoreFault h =
+      let all : StoreLog old.store (true ∷ replicate (log.calls + h.0) false) new =
+      subst (λ l. StoreLog old.store (true ∷ l) new) (after_calls h.0) (append-StoreLog old.store now.store new (replicate log.calls false) (true ∷ replicate h.0 false) log.store_log h.2) in
+      (h.0, h.1, all, failed-Rose old.store new (replicate (log.calls + h.0) false) all)
+  called-along new (Exited code) h = no-more-calls new h
+  called-along new (Trapped cause pc) h = no-more-calls new h
+  called-along new (TurnsOver count) h = no-more-calls new h
+  called-along new SinkFault h = no-more-calls new h
+  called-along new NoMemory h = no-more-calls new h
+
+  cause-along : (out err : SinkState) (e : Ending) → HasSinkCause now.out now.err e out err → HasSinkCause old.out old.err e out err
+  cause-along out err (Exited code) h = (h.0 ∙ log.out_steady, h.1 ∙ log.err_steady)
+  cause-along out err (Trapped cause pc) h = (h.0 ∙ log.out_steady, h.1 ∙ log.err_steady)
+  cause-along out err (TurnsOver count) h = (h.0 ∙ log.out_steady, h.1 ∙ log.err_steady)
+  cause-along out err StoreFault h = (h.0 ∙ log.out_steady, h.1 ∙ log.err_steady)
+  cause-along out err NoMemory h = (h.0 ∙ log.out_steady, h.1 ∙ log.err_steady)
+  cause-along out err SinkFault h =
+      elim h [ inl r ↦ inl (subst (λ m. Rose m out.faults) log.out_steady r) | inr r ↦ inr (subst (λ m. Rose m err.faults) log.err_steady r) ]
+
+  -- a state that is shown but for its exit code
+  left-Shows : (core_new : Core) (space_new : Space) (f_new : Descriptors) (s : State) → Shows p core_new space_new f_new s → Shows p core_new space_new f_new (record s { exited = None })
+  left-Shows core_new space_new f_new s shows =
+      record {
+        view = shows.view;
+        registers = shows.registers;
+        pc = shows.pc;
+        memory = shows.memory;
+        files = shows.files;
+        exited = refl;
+        layout = shows.layout;
+        words = shows.words;
+      }
 
   -- the run ends in the state that it is in
-  ends-here : (turns : ℕ) (e : Ending) (out_new err_new : SinkState) → EndsBy p turns n log.state e → Stops p log.state e out_now err_now out_new err_new
-      → RunsTo p turns out err e out_new err_new
-  ends-here turns e out_new err_new ends stop =
+  pub ends-here : (turns : ℕ) (e : Ending) (core_new : Core) (space_new : Space) (f_new : Descriptors) (new : Outside) → EndsBy p turns n log.state e
+      → Stops p log.state e now core_new space_new f_new new → RunsTo p turns old e core_new space_new f_new new
+  ends-here turns e core_new space_new f_new new ends stop =
       record {
         n = n;
         state = log.state;
+        calls = log.calls;
+        answers = log.answers;
         outs = log.outs;
         errs = log.errs;
         reached = log.reached;
+        told = log.told;
+        shows = left-Shows core_new space_new f_new log.state stop.shows;
         out_is = log.out_is;
         err_is = log.err_is;
         ends = ends;
-        out_log = same-log out out_now out_new log.outs log.out_log stop.out_log;
-        err_log = same-log err err_now err_new log.errs log.err_log stop.err_log;
-        cause = cause-along out_new err_new e stop.cause;
+        called = called-along new.store e stop.called;
+        out_log = same-log old.out now.out new.out log.outs log.out_log stop.out_log;
+        err_log = same-log old.err now.err new.err log.errs log.err_log stop.err_log;
+        cause = cause-along new.out new.err e stop.cause;
       }
 
-  pub ended-RunsTo : (turns : ℕ) (e : Ending) (out_new err_new : SinkState) → Stops p log.state e out_now err_now out_new err_new → RunsTo p turns out err e out_new err_new
-  ended-RunsTo turns (Exited code) out_new err_new stop =
+  pub ended-RunsTo : (turns : ℕ) (e : Ending) (core_new : Core) (space_new : Space) (f_new : Descriptors) (new : Outside)
+      → n < turns → Stops p log.state e now core_new space_new f_new new → RunsTo p turns old e core_new space_new f_new new
+  ended-RunsTo turns (Exited code) core_new space_new f_new new left stop =
+      let none : log.calls + next_calls p log.state ≡ log.calls = omega (arith, stop.ends.1) in
       record {
         n = suc n;
         state = record log.state { exited = Some code };
+        calls = log.calls;
+        answers = log.answers;
         outs = log.outs;
         errs = log.errs;
-        reached = λ files t agrees. one-more (record log.state { exited = Some code }) files t (log.reached files t agrees) (stop.ends files t);
+        reached = λ files t true_of agrees.
+            subst (λ k. Reaches p files t (suc n) (record log.state { exited = Some code }) k) none
+            (one-more (record log.state { exited = Some code }) files t (log.reached files t true_of agrees) (stop.ends.0 files t));
+        told = log.told;
+        shows = left-Shows core_new space_new f_new log.state stop.shows;
         out_is = log.out_is;
         err_is = log.err_is;
-        ends = refl;
-        out_log = same-log out out_now out_new log.outs log.out_log stop.out_log;
-        err_log = same-log err err_now err_new log.errs log.err_log stop.err_log;
-        cause = cause-along out_new err_new (Exited code) stop.cause;
+        ends = (omega (arith, left), refl);
+        called = no-more-calls new.store stop.called;
+        out_log = same-log old.out now.out new.out log.outs log.out_log stop.out_log;
+        err_log = same-log old.err now.err new.err log.errs log.err_log stop.err_log;
+        cause = cause-along new.out new.err (Exited code) stop.cause;
       }
-  ended-RunsTo turns (Trapped cause pc) out_new err_new stop = ends-here turns (Trapped cause pc) out_new err_new (log.shows.exited, stop.ends) stop
-  ended-RunsTo turns NotBuilt out_new err_new stop = ends-here turns NotBuilt out_new err_new (log.shows.exited, stop.ends) stop
-  ended-RunsTo turns SinkFault out_new err_new stop = ends-here turns SinkFault out_new err_new (log.shows.exited, stop.ends) stop
-  ended-RunsTo turns NoMemory out_new err_new stop = ends-here turns NoMemory out_new err_new tt stop
-  ended-RunsTo turns (TurnsOver count) out_new err_new stop = absurd stop.ends
+  ended-RunsTo turns (Trapped cause pc) core_new space_new f_new new left stop = ends-here turns (Trapped cause pc) core_new space_new f_new new (left, log.shows.exited, stop.ends) stop
+  ended-RunsTo turns StoreFault core_new space_new f_new new left stop = ends-here turns StoreFault core_new space_new f_new new (left, log.shows.exited, stop.ends) stop
+  ended-RunsTo turns SinkFault core_new space_new f_new new left stop = ends-here turns SinkFault core_new space_new f_new new (left, log.shows.exited, stop.ends) stop
+  ended-RunsTo turns NoMemory core_new space_new f_new new left stop = ends-here turns NoMemory core_new space_new f_new new (omega (arith, left)) stop
+  ended-RunsTo turns (TurnsOver count) core_new space_new f_new new left stop = absurd stop.ends
 
   -- all turns are over
-  pub over-RunsTo : (turns : ℕ) → n ≡ turns → RunsTo p turns out err (TurnsOver turns) out_now err_now
+  pub over-RunsTo : (turns : ℕ) → n ≡ turns → RunsTo p turns old (TurnsOver turns) core space f now
   over-RunsTo turns e =
       record {
         n = n;
         state = log.state;
+        calls = log.calls;
+        answers = log.answers;
         outs = log.outs;
         errs = log.errs;
         reached = log.reached;
+        told = log.told;
+        shows = left-Shows core space f log.state log.shows;
         out_is = log.out_is;
         err_is = log.err_is;
-        ends = (log.shows.exited, e, refl);
+        ends = (e, log.shows.exited, refl);
+        called = log.store_log;
         out_log = log.out_log;
         err_log = log.err_log;
         cause = (log.out_steady, log.err_steady);

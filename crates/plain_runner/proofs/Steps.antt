@@ -1,9 +1,12 @@
 -- A step of the hart is a step of the plain run.
-use Rattle.std.proofs.Common.{◌≡◌, ℕ, ◌-◌, ◌/◌, ◌%◌, Bool, true, false, ◌&&◌, ◌==◌, nat_le, List, [], map, Option, Some, None, refl, ap, sym, ◌∙◌, subst}
+use Rattle.std.proofs.Common.{◌≡◌, ◌≢◌, ℕ, ◌-◌, ◌/◌, ◌%◌, Bool, true, false, ◌&&◌, ◌==◌, nat_le, List, [], map, Option, Some, None, refl, ap, sym, ◌∙◌, subst}
 use Rattle.std.proofs.lemmas.Option.{slice_get-map}
 use Rattle.std.specs.Option.{option_map}
+use Rattle.std.proofs.Math.ListN.{replicate}
+use Rattle.std.proofs.lemmas.List.Elements.{All-nil}
 use Rattle.spec_base.specs.Files.{Files}
 use Rattle.spec_base.specs.declared.machine.Trap.{Trap}
+use Rattle.spec_base.specs.declared.machine.Trap.TheVariants as trap
 use Rattle.spec_base.specs.declared.machine.View.TheVariants.{Plain}
 use Rattle.rv_decode.specs.Instruction.{instr_of}
 use Rattle.rv_decode.specs.declared.instr.Instr.{Instr}
@@ -17,15 +20,19 @@ use Rattle.rv_model.specs.Effect.{Effect, Next, Stored, Trapped, Called, Gated, 
 use Rattle.rv_model.specs.Space.{Space, word_effect, effect_at}
 use Rattle.spec_base.specs.Word.{plus_int}
 use Rattle.program_model.specs.Descriptors.{Descriptors}
-use Rattle.program_model.specs.PlainRun.{State, Image as Program, Taken, Went, Traps, plan_of, next, next_state, next_unless, completed, at_word, after_effect, call_step, end_unless, end_of_step, TrapsAt}
+use Rattle.program_model.specs.PlainRun.{State, Image as Program, Taken, Went, Traps, text_of, next, next_state, next_unless, completed, at_word, after_effect, end_unless, end_of_step, TrapsAt}
 use Rattle.hart_step.specs.Core.{Core}
 use Rattle.hart_step.specs.Step.{outcome, stepped, store_outcome, effect_here}
 use Rattle.hart_step.specs.declared.event.Event.{Event}
 use Rattle.hart_step.specs.declared.event.Event.TheVariants as event
-use Rattle.world_io.specs.Outside.{SinkState}
+use Rattle.world_io.specs.Logs.{StoreLog}
 use Rattle.world_io.proofs.Sinks.{none-SinkLog}
+use Rattle.world_io.proofs.Stores.{none-StoreLog}
 use Rattle.plain_runner.specs.declared.ending.Ending.TheVariants.{Trapped as EndsTrapped, NoMemory}
-use Rattle.plain_runner.specs.Turns.{Shows, GoesOn, Stops, without_put}
+use Rattle.plain_runner.specs.StoreCalls.{next_calls, word_calls, effect_calls}
+use Rattle.plain_runner.specs.Answers.{Answers}
+use Rattle.plain_runner.specs.Runs.{Outside, Shows}
+use Rattle.plain_runner.specs.Turns.{IsAtCall, GoesOn, Stops, alone}
 
 -- ---- the word at the pc
 
@@ -36,28 +43,36 @@ fetched-map f code start pc = by (nat_le start pc && (pc % 4 == 0)) refl
     by true e = rw (e, fetched) (slice_get-map f code ((pc - start) / 4))
     by false e = rw (e, fetched) refl
 
--- a word of the text, as the plain run and as the memory of all parts has it
-word-effect : (p : Program) (s : State) (sp : Space) (files : Files) (t : Taken) → sp.layout ≡ p.layout → s.memory ≡ sp.program → (o : Option ℕ)
-    → at_word p files t s (option_map instr_of o) ≡ after_effect p files t s (word_effect Plain sp s.registers s.pc o)
-word-effect p s sp files t l m None = refl
-word-effect p s sp files t l m (Some word) =
-    ap (λ r. after_effect p files t s (effect Plain r s.memory s.registers s.pc (instr_of word))) (ap data_rights (sym l))
-    ∙ ap (λ n. after_effect p files t s (effect Plain (data_rights sp.layout) n s.registers s.pc (instr_of word))) m
+-- what is said of an instruction, or of none, by its effect: so for the word at the pc, as the plain run and as the memory of all parts has it
+module _ {R : Type 0} (p : Program) (s : State) (c : Core) (sp : Space) (f : Descriptors) (shows : Shows p c sp f s) (of_instr : Option Instr → R) (of_effect : Effect → R)
+    (none : of_instr None ≡ of_effect (Trapped trap.FetchOut))
+    (some : (i : Instr) → of_instr (Some i) ≡ of_effect (effect Plain (data_rights p.layout) s.memory s.registers s.pc i)) where
+  word-by : (o : Option ℕ) → of_instr (option_map instr_of o) ≡ of_effect (word_effect Plain sp s.registers s.pc o)
+  word-by None = none
+  word-by (Some word) =
+      some (instr_of word)
+      ∙ (ap (λ r. of_effect (effect Plain r s.memory s.registers s.pc (instr_of word))) (ap data_rights (sym shows.layout))
+      ∙ ap (λ m. of_effect (effect Plain (data_rights sp.layout) m s.registers s.pc (instr_of word))) shows.memory)
 
-next-effect : (p : Program) (s : State) (sp : Space) (files : Files) (t : Taken) → sp.layout ≡ p.layout → sp.text ≡ p.words → s.memory ≡ sp.program
-    → next p files t s ≡ after_effect p files t s (effect_at Plain sp s.registers s.pc)
-unfolding effect_at
-next-effect p s sp files t l w m =
-    ap (at_word p files t s) (fetched-map instr_of p.words p.layout.text_start s.pc)
-    ∙ (word-effect p s sp files t l m (fetched p.words p.layout.text_start s.pc)
-    ∙ (ap (λ ws. after_effect p files t s (word_effect Plain sp s.registers s.pc (fetched ws p.layout.text_start s.pc))) (sym w)
-    ∙ ap (λ layout. after_effect p files t s (word_effect Plain sp s.registers s.pc (fetched sp.text layout.text_start s.pc))) (sym l)))
+  at-pc : of_instr (fetched (text_of p) p.layout.text_start s.pc) ≡ of_effect (effect_at Plain sp s.registers s.pc)
+  unfolding effect_at
+  at-pc =
+      ap of_instr (fetched-map instr_of p.words p.layout.text_start s.pc)
+      ∙ (word-by (fetched p.words p.layout.text_start s.pc)
+      ∙ (ap (λ ws. of_effect (word_effect Plain sp s.registers s.pc (fetched ws p.layout.text_start s.pc))) (sym shows.words)
+      ∙ ap (λ layout. of_effect (word_effect Plain sp s.registers s.pc (fetched sp.text layout.text_start s.pc))) (sym shows.layout)))
+
+  here-by : of_instr (fetched (text_of p) p.layout.text_start s.pc) ≡ of_effect (effect_here c sp)
+  here-by = rw (shows.view, ← shows.registers, ← shows.pc) at-pc
 
 -- the next step is the effect of the word at the hart's pc
 pub next-is : (p : Program) (s : State) (c : Core) (sp : Space) (f : Descriptors) → Shows p c sp f s → (files : Files) (t : Taken)
     → next p files t s ≡ after_effect p files t s (effect_here c sp)
-next-is p s c sp f shows files t =
-    rw (shows.view, ← shows.registers, ← shows.pc) (next-effect p s sp files t shows.layout shows.words shows.memory)
+next-is p s c sp f shows files t = here-by p s c sp f shows (at_word p files t s) (after_effect p files t s) refl (λ i. refl)
+
+-- and so are the calls on the store
+calls-are : (p : Program) (s : State) (c : Core) (sp : Space) (f : Descriptors) → Shows p c sp f s → next_calls p s ≡ effect_calls p s (effect_here c sp)
+calls-are p s c sp f shows = here-by p s c sp f shows (word_calls p s) (effect_calls p s) refl (λ i. refl)
 
 -- ---- no gate is legal in the Plain view
 
@@ -127,13 +142,14 @@ pub record Moved (p : Program) (s : State) (core : Core) (space : Space) (f : De
   pub steps : (files : Files) (t : Taken) → next_state p files t s ≡ Some next
   pub out : next.out ≡ s.out
   pub err : next.err ≡ s.err
+  pub calls : next_calls p s ≡ 0
   pub shows : Shows p core space f next
 
 -- what a step that told an event came to: a trap, a call, and want of a page leave hart and memory, and no other event comes in the Plain view
 abbrev pub StepsTo : Program → State → Core → Space → Descriptors → Event → Core → Space → Type 0
 StepsTo p s c sp f event.Done core space = Moved p s core space f
 StepsTo p s c sp f (event.Trap cause) core space = ((files : Files) (t : Taken) → next p files t s ≡ Traps cause) × (core ≡ c) × (space ≡ sp)
-StepsTo p s c sp f event.Ecall core space = ((files : Files) (t : Taken) → next p files t s ≡ call_step files t (plan_of p.layout s) s) × (core ≡ c) × (space ≡ sp)
+StepsTo p s c sp f event.Ecall core space = IsAtCall p s × (core ≡ c) × (space ≡ sp)
 StepsTo p s c sp f event.NoMemory core space = (core ≡ c) × (space ≡ sp)
 StepsTo p s c sp f other core space = ⊥
 
@@ -142,15 +158,16 @@ module _ (p : Program) (s : State) (c : Core) (sp : Space) (f : Descriptors) (sh
   goes : (n : State) → ((files : Files) (t : Taken) → next p files t s ≡ Went n) → (files : Files) (t : Taken) → next_state p files t s ≡ Some n
   goes n went files t = ap (λ e. next_unless e p files t s) shows.exited ∙ ap completed (went files t)
 
-  stores : (b : Bool) (a width v : ℕ) → ((files : Files) (t : Taken) → next p files t s ≡ after_effect p files t s (Stored a width v))
+  stores : (b : Bool) (a width v : ℕ) → next_calls p s ≡ 0 → ((files : Files) (t : Taken) → next p files t s ≡ after_effect p files t s (Stored a width v))
       → StepsTo p s c sp f (store_outcome b c sp a width v).event (store_outcome b c sp a width v).core (store_outcome b c sp a width v).space
-  stores true a width v went = (refl, refl)
-  stores false a width v went =
+  stores true a width v none went = (refl, refl)
+  stores false a width v none went =
       record {
         next = record s { memory = stored s.memory a width v; pc = after s.pc };
         steps = goes (record s { memory = stored s.memory a width v; pc = after s.pc }) went;
         out = refl;
         err = refl;
+        calls = none;
         shows = record {
           view = shows.view;
           registers = shows.registers;
@@ -163,14 +180,15 @@ module _ (p : Program) (s : State) (c : Core) (sp : Space) (f : Descriptors) (sh
         };
       }
 
-  steps-by : (e : Effect) → is_gated e ≡ false → ((files : Files) (t : Taken) → next p files t s ≡ after_effect p files t s e)
+  steps-by : (e : Effect) → is_gated e ≡ false → next_calls p s ≡ effect_calls p s e → ((files : Files) (t : Taken) → next p files t s ≡ after_effect p files t s e)
       → StepsTo p s c sp f (stepped lacks e c sp).event (stepped lacks e c sp).core (stepped lacks e c sp).space
-  steps-by (Next rs pc) g went =
+  steps-by (Next rs pc) g none went =
       record {
         next = record s { registers = rs; pc = pc };
         steps = goes (record s { registers = rs; pc = pc }) went;
         out = refl;
         err = refl;
+        calls = none;
         shows = record {
           view = shows.view;
           registers = refl;
@@ -182,51 +200,70 @@ module _ (p : Program) (s : State) (c : Core) (sp : Space) (f : Descriptors) (sh
           words = shows.words;
         };
       }
-  steps-by (Stored a width v) g went = stores (lacks a) a width v went
-  steps-by (Trapped cause) g went = (went, refl, refl)
-  steps-by Called g went = (went, refl, refl)
-  steps-by (Gated gate) g went = absurd (let h : true ≡ false = g in cc)
+  steps-by (Stored a width v) g none went = stores (lacks a) a width v none went
+  steps-by (Trapped cause) g none went = (went, refl, refl)
+  steps-by Called g count went = (record { performs = went; calls = count }, refl, refl)
+  steps-by (Gated i) g none went = absurd (let h : true ≡ false = g in cc)
 
   -- a step of the hart, by its event
   pub steps-to : (told : Event) (core : Core) (space : Space) → outcome told core space ≡ stepped lacks (effect_here c sp) c sp → StepsTo p s c sp f told core space
   steps-to told core space h =
       subst (λ o. StepsTo p s c sp f o.event o.core o.space) (sym h)
-      (steps-by (effect_here c sp) (here-gated p s c sp f shows) (next-is p s c sp f shows))
+      (steps-by (effect_here c sp) (here-gated p s c sp f shows) (calls-are p s c sp f shows) (next-is p s c sp f shows))
 
 -- ---- a turn, by its step
 
-pub done-GoesOn : (p : Program) (s : State) (c : Core) (sp : Space) (f : Descriptors) (core : Core) (space : Space) (out err : SinkState)
-    → StepsTo p s c sp f event.Done core space → GoesOn p s out err core space f out err
-done-GoesOn p s c sp f core space out err moved =
+pub done-GoesOn : (p : Program) (s : State) (c : Core) (sp : Space) (f : Descriptors) (core : Core) (space : Space) (o : Outside)
+    → StepsTo p s c sp f event.Done core space → GoesOn p s o core space f o
+done-GoesOn p s c sp f core space o moved =
     record {
       next = moved.next;
+      answers = [];
       outs = [];
       errs = [];
-      completes = without_put moved.steps moved.out moved.err;
+      completes = alone moved.steps moved.out moved.err;
+      told = λ files e. All-nil (Answers files);
       shows = moved.shows;
-      out_log = none-SinkLog out;
-      err_log = none-SinkLog err;
+      store_log = subst (λ n. StoreLog o.store (replicate n false) o.store) (sym moved.calls) (none-StoreLog o.store);
+      out_log = none-SinkLog o.out;
+      err_log = none-SinkLog o.err;
       out_steady = refl;
       err_steady = refl;
     }
 
-pub trap-Stops : (p : Program) (s : State) (c : Core) (sp : Space) (f : Descriptors) (shows : Shows p c sp f s) (cause : Trap) (pc : ℕ) (core : Core) (space : Space) (out err : SinkState)
-    → StepsTo p s c sp f (event.Trap cause) core space → pc ≡ core.pc → Stops p s (EndsTrapped cause pc) out err out err
-trap-Stops p s c sp f shows cause pc core space out err stepped_to at =
+-- hart and memory are as before
+same-Shows : (p : Program) (s : State) (c : Core) (sp : Space) (f : Descriptors) → Shows p c sp f s → (core : Core) (space : Space) → core ≡ c → space ≡ sp → Shows p core space f s
+same-Shows p s c sp f shows core space same_core same_space = subst (λ k. Shows p k space f s) (sym same_core) (subst (λ m. Shows p c m f s) (sym same_space) shows)
+
+pub trap-Stops : (p : Program) (s : State) (c : Core) (sp : Space) (f : Descriptors) (shows : Shows p c sp f s) (cause : Trap) (pc : ℕ) (core : Core) (space : Space) (o : Outside)
+    → StepsTo p s c sp f (event.Trap cause) core space → pc ≡ core.pc → Stops p s (EndsTrapped cause pc) o core space f o
+trap-Stops p s c sp f shows cause pc core space o stepped_to at =
     record {
       ends = λ files t.
           ap (λ e. end_unless e p files t s) shows.exited
           ∙ (ap (λ st. end_of_step st s.pc) (stepped_to.0 files t) ∙ ap (λ a. TrapsAt cause a) (shows.pc ∙ (ap (λ k. k.pc) (sym stepped_to.1) ∙ sym at)));
-      out_log = none-SinkLog out;
-      err_log = none-SinkLog err;
+      shows = same-Shows p s c sp f shows core space stepped_to.1 stepped_to.2;
+      called = none-StoreLog o.store;
+      out_log = none-SinkLog o.out;
+      err_log = none-SinkLog o.err;
       cause = (refl, refl);
     }
 
-pub starved-Stops : (p : Program) (s : State) (out err : SinkState) → Stops p s NoMemory out err out err
-starved-Stops p s out err = record { ends = tt; out_log = none-SinkLog out; err_log = none-SinkLog err; cause = (refl, refl) }
+-- want of memory
+pub starved-Stops : (p : Program) (s : State) (core : Core) (space : Space) (f : Descriptors) (o : Outside) → Shows p core space f s → Stops p s NoMemory o core space f o
+starved-Stops p s core space f o shows =
+    record { ends = tt; shows = shows; called = none-StoreLog o.store; out_log = none-SinkLog o.out; err_log = none-SinkLog o.err; cause = (refl, refl) }
+
+-- an event that isn't treated apart leaves hart and memory
+pub other-Shows : (p : Program) (s : State) (c : Core) (sp : Space) (f : Descriptors) → Shows p c sp f s → (core : Core) (space : Space) (told : Event)
+    → told ≢ event.Done → told ≢ event.Ecall → ((cause : Trap) → told ≢ event.Trap cause) → StepsTo p s c sp f told core space → Shows p core space f s
+other-Shows p s c sp f shows core space event.Done nd ne nt came = absurd (nd refl)
+other-Shows p s c sp f shows core space event.Ecall nd ne nt came = absurd (ne refl)
+other-Shows p s c sp f shows core space (event.Trap cause) nd ne nt came = absurd (nt cause refl)
+other-Shows p s c sp f shows core space event.NoMemory nd ne nt came = same-Shows p s c sp f shows core space came.0 came.1
+other-Shows p s c sp f shows core space other nd ne nt came = absurd came
 
 -- a call leaves hart and memory as they were
 pub call-Shows : (p : Program) (s : State) (c : Core) (sp : Space) (f : Descriptors) → Shows p c sp f s → (core : Core) (space : Space)
     → StepsTo p s c sp f event.Ecall core space → Shows p core space f s
-call-Shows p s c sp f shows core space stepped_to =
-    subst (λ k. Shows p k space f s) (sym stepped_to.1) (subst (λ m. Shows p c m f s) (sym stepped_to.2) shows)
+call-Shows p s c sp f shows core space stepped_to = same-Shows p s c sp f shows core space stepped_to.1 stepped_to.2

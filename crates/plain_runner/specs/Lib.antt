@@ -1,2 +1,5 @@
+pub mod StoreCalls
+pub mod Answers
 pub mod Runs
 pub mod Turns
+pub mod Outcomes

@@ -11,8 +11,8 @@ pub enum Ending {
     Trapped(Trap, u64),
     /// So many instructions were completed, as many as were allowed.
     TurnsOver(u64),
-    /// The program made a call that isn't built yet.
-    NotBuilt,
+    /// A look or a fetch for the program failed.
+    StoreFault,
     /// A put of the program failed.
     SinkFault,
     /// An allocation was refused.

@@ -1,3 +1,4 @@
 mod WordBytes
 mod PartLemmas
+mod ArgumentLemmas
 mod StartLemmas

@@ -1,5 +1,5 @@
 -- The argument and the stack stand in data.
-use Rattle.std.proofs.Common.{◌≡◌, ℕ, zero, suc, ◌+◌, ◌-◌, ◌/◌, ◌<◌, ◌≤◌, Bool, true, false, not, ◌&&◌, nat_le, nat_lt, IsTrue, List, [], ◌∷◌, length, Some, refl, ap, ◌∙◌, arith, lit≤}
+use Rattle.std.proofs.Common.{◌≡◌, ℕ, zero, suc, ◌+◌, ◌-◌, ◌/◌, ◌<◌, ◌≤◌, Bool, true, false, not, ◌&&◌, nat_le, nat_lt, IsTrue, List, length, Some, refl, ap, ◌∙◌, arith, lit≤}
 use Rattle.std.proofs.lemmas.Bool.Decides.{nat_tests}
 use Rattle.spec_base.specs.Layout.{range_end, image_limit, is_lawful}
 use Rattle.spec_base.specs.declared.layout.Layout.{Layout}
@@ -57,16 +57,16 @@ pub text-count : (bytes : List ℕ) (image : Image) (s : Segment) → code_of im
 unfolding text_words
 text-count bytes image s e = ap (λ o. length (words_in o bytes image)) e ∙ words_at-count (file_place s image.text_start) ((image.text_end - image.text_start) / 4) bytes
 
--- ---- the argument and the stack
-
-pub arguments-count : (name : List ℕ) → length (argument_bytes (name ∷ [])) ≡ length name + 1
-arguments-count [] = refl
-arguments-count (x ∷ name) = let place : suc (length name + 1) ≡ suc (length name) + 1 = omega arith in ap suc (arguments-count name) ∙ place
+-- ---- the arguments and the stack
 
 -- a MiB lies between the images and the end of the program range
 pub mebibyte : (v : Version) → image_limit v + 0x10_0000 ≡ range_end v
 mebibyte One = refl
 mebibyte Two = refl
+
+-- the arguments leave most of it
+pub room : (v : Version) (end total : ℕ) → end ≡ range_end v → total ≤ 65_536 → (image_limit v + 983_040 ≤ end - total) × (end - total + total ≡ end)
+room v end total e short = let wide = mebibyte v in (omega (arith, wide, e, short), omega (arith, wide, e, short))
 
 -- the memory after both were written
 pub start-is : (s s1 s2 : Space) (arguments : List (List ℕ)) (a st : ℕ) (bs cs : List ℕ) → a ≡ arguments_start s.layout arguments → bs ≡ argument_bytes arguments

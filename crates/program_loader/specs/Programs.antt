@@ -37,16 +37,6 @@ executable_of version bytes image =
 abbrev pub program_of : Version → List ℕ → Image → List (List ℕ) → Program
 program_of version bytes image arguments = loaded_image (executable_of version bytes image) arguments
 
--- a hart, a memory and descriptors are those of a program's start
-pub record IsLoaded (p : Program) (core : Core) (space : Space) (f : Descriptors) : Type 0 where
-  pub view : core.view ≡ Plain
-  pub registers : core.registers ≡ p.start.registers
-  pub pc : core.pc ≡ p.start.pc
-  pub memory : space.program ≡ p.start.memory
-  pub files : f ≡ p.start.files
-  pub layout : space.layout ≡ p.layout
-  pub words : space.text ≡ p.words
-
 -- a memory of the text with the file parts
 abbrev pub parts_space : Executable → Space
 parts_space e = record (empty_space e.layout e.words) { program = data_of e.layout (with_parts zeros e.parts) }

@@ -1,12 +1,14 @@
 //! The loading of an image.
 
-ghost use Rattle.std.specs.Prelude.{◌≡◌, ℕ, ◌∷◌, [], ◌≤◌, ◌+◌, ◌-◌, ◌*◌, ◌/◌, length, IfOk, IsTrue};
-ghost use Rattle.spec_base.specs.Layout.{is_lawful, range_end};
-ghost use Rattle.program_model.specs.Loading.{argument_bytes, stack_start};
+ghost use Rattle.std.specs.Prelude.{◌≡◌, ◌≤◌, ◌+◌, ◌-◌, ◌*◌, ◌/◌, length, map, string_bytes, IfOk, IsTrue};
+ghost use Rattle.std.specs.List.{sum_by};
+ghost use Rattle.spec_base.specs.Layout.{is_lawful};
+ghost use Rattle.program_model.specs.Loading.{stack_start};
 ghost use Rattle.elf_image.specs.Image.{IsImage};
 ghost use Rattle.hart_mem.specs.Held.{space_of};
 ghost use Rattle.hart_step.specs.Core.{core_of};
-ghost use Rattle.program_loader.specs.Programs.{plain_layout, executable_of, program_of, IsLoaded, parts_space, start_space};
+ghost use Rattle.program_loader.specs.Programs.{plain_layout, executable_of, program_of, parts_space, start_space};
+ghost use Rattle.plain_runner.specs.Turns.{IsStart};
 
 use crate::parts::load_parts;
 use crate::start::{argument_bytes, stack_bytes};
@@ -14,7 +16,7 @@ use elf_image::{Image, text};
 use file_calls::Files;
 use hart_mem::Mem;
 use hart_step::Hart;
-use spec_base::{Layout, Name, NoMemory, Reg, Version, View};
+use spec_base::{Layout, NoMemory, Reg, Version, View};
 use std::alloc::Global;
 
 /// A program at its first instruction.
@@ -51,51 +53,54 @@ fn memory_of(alloc: Global, bytes: &[u8], image: &Image, version: Version) -> Re
     Ok(mem)
 }
 
-/// Where the one argument begins. Its zero byte is the last byte of the program range.
-fn arguments_start(version: Version, name: &Name) -> u64
-    ensures value { result ≡ range_end version - length (argument_bytes (name.now ∷ [])) }
-    ensures past { result + (length name.now + 1) ≡ range_end version }
-    ensures near { length name.now ≤ 255 }
+/// Where the stack begins, at a multiple of 16, below the arguments.
+fn stack_start(arguments: u64, length: u64) -> u64
+    requires { length ≤ arguments }
+    ensures value { result ≡ (arguments - length) / 16 * 16 }
+    ensures below { result + length ≤ arguments }
+    ensures near { arguments ≤ result + length + 15 }
 {
-    version.range_end() - (name.as_bytes().len() as u64 + 1)
+    (arguments - length) / 16 * 16
 }
 
-/// Where the stack begins, at a multiple of 16, below the one argument.
-fn stack_start(arguments: u64) -> u64
-    requires { 48 ≤ arguments }
-    ensures value { result ≡ (arguments - 48) / 16 * 16 }
-    ensures below { result + 48 ≤ arguments }
-    ensures near { arguments ≤ result + 63 }
-{
-    (arguments - 48) / 16 * 16
-}
-
-/// Writes the argument and the stack, and answers where the stack begins.
-fn write_start(alloc: Global, mem: &mut Mem, version: Version, name: &Name) -> Result<u64, NoMemory>
+/// Writes the arguments and the stack, and answers where the stack begins.
+fn write_start(
+    alloc: Global,
+    mem: &mut Mem,
+    version: Version,
+    arguments: &[String],
+) -> Result<u64, NoMemory>
     requires lawful { IsTrue (is_lawful (space_of mem.old).layout) }
     requires version { (space_of mem.old).layout.version ≡ version }
-    ensures { IfOk result (λ at. (at ≡ stack_start (space_of mem.old).layout (name.now ∷ [])) × (space_of mem.new ≡ start_space (space_of mem.old) (name.now ∷ []))) }
+    requires few { length arguments.now ≤ 64 }
+    requires short { sum_by (λ word. length word + 1) (map string_bytes arguments.now) ≤ 65_536 }
+    ensures { IfOk result (λ at. (at ≡ stack_start (space_of mem.old).layout (map string_bytes arguments.now)) × (space_of mem.new ≡ start_space (space_of mem.old) (map string_bytes arguments.now))) }
 {
-    let arguments = arguments_start(version, name);
-    let stack = stack_start(arguments);
-    mem.fill(arguments, &argument_bytes(alloc, name.as_bytes())?)?;
-    mem.fill(stack, &stack_bytes(alloc, arguments)?)?;
+    let bytes = argument_bytes(alloc, arguments)?;
+    let start = version.range_end() - bytes.len() as u64;
+    let words = stack_bytes(alloc, start, arguments)?;
+    let stack = stack_start(start, words.len() as u64);
+    mem.fill(start, &bytes)?;
+    mem.fill(stack, &words)?;
     Ok(stack)
 }
 
-/// Loads an accepted image, whose one argument is its name.
+/// Loads an accepted image with its arguments, of which the first is by custom its name. There are
+/// 64 at most, of 65,536 bytes at most with a zero byte behind each.
 pub fn load(
     alloc: Global,
     bytes: &[u8],
     image: &Image,
     version: Version,
-    name: &Name,
+    arguments: &[String],
 ) -> Result<Process, NoMemory>
-    requires { IsImage bytes.now version image.now }
-    ensures { IfOk result (λ process. IsLoaded (program_of version bytes.now image.now (name.now ∷ [])) (core_of process.hart) (space_of process.mem) process.files) }
+    requires image { IsImage bytes.now version image.now }
+    requires few { length arguments.now ≤ 64 }
+    requires short { sum_by (λ word. length word + 1) (map string_bytes arguments.now) ≤ 65_536 }
+    ensures { IfOk result (λ process. IsStart (program_of version bytes.now image.now (map string_bytes arguments.now)) (core_of process.hart) (space_of process.mem) process.files) }
 {
     let mut mem = memory_of(alloc, bytes, image, version)?;
-    let stack = write_start(alloc, &mut mem, version, name)?;
+    let stack = write_start(alloc, &mut mem, version, arguments)?;
     let mut hart = Hart::new(image.entry, View::Plain);
     hart.set_reg(Reg::from_low_bits(2), stack);
     let files = Files::new(image.break_start, version.image_limit());

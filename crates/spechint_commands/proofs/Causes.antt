@@ -1,5 +1,5 @@
 -- What an outcome says of the causes of an answer.
-use Rattle.std.proofs.Common.{◌≡◌, ◌⊎◌, inl, inr, ℕ, ◌≤◌, Bool, true, false, List, [], arith, subst, Some, None, Option, IfSome, Err}
+use Rattle.std.proofs.Common.{◌≡◌, ◌⊎◌, inl, inr, ℕ, ◌≤◌, Bool, true, false, List, [], arith, refl, subst, Some, None, Option, IfSome, Err}
 use Rattle.std.specs.Prelude.{MatchOption}
 use Rattle.world_io.specs.Outside.{StoreState, SinkState, Rose}
 use Rattle.world_io.specs.Logs.{StoreLog}
@@ -7,31 +7,71 @@ use Rattle.world_io.specs.Texts.{PutsText}
 use Rattle.world_io.proofs.Stores.{failed-Rose}
 use Rattle.whole_file.specs.Reading.{ReadsWhole}
 use Rattle.whole_file.specs.declared.reading.ReadFault.TheVariants as read
-use Rattle.plain_runner.specs.Runs.{HasSinkCause}
-use Rattle.spechint_commands.specs.Words.{image_name}
+use Rattle.command_words.specs.CommandLine.{command_of}
+use Rattle.command_words.specs.declared.command.Command.{Command}
+use Rattle.command_words.specs.declared.command.Command.TheVariants.{Plain, Rewrite, Run, Trace, Demo, Replay, Plan}
+use Rattle.command_words.specs.declared.request.Request.{Request}
+use Rattle.plain_runner.specs.Runs.{Outside, CallsStore, HasSinkCause}
 use Rattle.spechint_commands.specs.Texts.{text_of}
-use Rattle.spechint_commands.specs.Top.{Outside, IsOutcome, PlainTo, Tells}
+use Rattle.spechint_commands.specs.Top.{IsOutcome, CommandTo, Accepted, Tells, TellsAlone, image_name, asked_program}
 use Rattle.spechint_commands.specs.declared.status.Status.{Status}
-use Rattle.spechint_commands.specs.declared.status.Status.TheVariants.{NotBuilt, Absent, StoreFault, SinkFault}
+use Rattle.spechint_commands.specs.declared.status.Status.TheVariants.{Usage, NotBuilt, Absent, StoreFault, SinkFault, NoMemory}
 
--- the outcome, by the name that the words have
-abbrev pub ByName : Option (List ℕ) → Status → Outside → Outside → Type 0
-ByName o status old new =
+-- ---- outcomes, by the request that the words make
+
+-- the outcome where there was memory to read the words
+abbrev pub ByRequest : Option Request → Status → Outside → Outside → Type 0
+ByRequest o status old new =
     MatchOption o
-    ((status ≡ NotBuilt) × (new.store ≡ old.store) × (new.out ≡ old.out) × Tells NotBuilt [] old.err new.err)
-    (λ name. (err : SinkState) × PlainTo name status old (record { store = new.store; out = new.out; err = err }) × Tells status name err new.err)
+    ((status ≡ Usage) × TellsAlone Usage old new)
+    (λ r. (err : SinkState) × CommandTo r.command r status old (record new { err = err }) × Tells status (image_name r) err new.err)
 
+-- the outcome with or without memory
+abbrev pub ByMemory : Option Request → Status → Outside → Outside → Type 0
+ByMemory o status old new = ((status ≡ NoMemory) × TellsAlone NoMemory old new) ⊎ ByRequest o status old new
+
+-- the outcome of a status that the answer is
+pub outcome_by : (words : List (List ℕ)) (status given : Status) (old new : Outside) → IsOutcome words status old new → status ≡ given → ByMemory (command_of words) given old new
+outcome_by words status given old new h e = subst (λ s. ByMemory (command_of words) s old new) e h.by
+
+-- ---- faults of the store
+
+-- a reading that failed
 pub failed_read : (a b : StoreState) (name : List ℕ) → ReadsWhole a name (Err read.Failed) b → Rose a.faults b.faults
 failed_read a b name r = failed-Rose a b _ (subst (λ l. StoreLog a l b) r.calls.1 r.went)
 
-store_fault_by : (o : Option (List ℕ)) (old new : Outside) → ByName o StoreFault old new → Rose old.store.faults new.store.faults
-store_fault_by None old new h = absurd (let e : StoreFault ≡ NotBuilt = h.0 in cc)
-store_fault_by (Some name) old new h = failed_read old.store new.store name h.1.0
+-- a count that rose from a later value
+earlier_Rose : (a b c : ℕ) → a ≤ b → Rose b c → Rose a c
+earlier_Rose a b c l r = omega arith
 
+-- a run that a fault of the store has ended
+pub failed_run : (r : Request) (old new : Outside) → Accepted r StoreFault old new → Rose old.store.faults new.store.faults
+failed_run r old new a =
+    let run = a.ran.runs in
+    let called = subst (λ e. CallsStore (asked_program r a.bytes a.image) run.state e run.calls a.between new.store) a.ran.gives run.called in
+    earlier_Rose old.store.faults a.between.faults new.store.faults a.read.went.keeps.later called.3
+
+store_fault_in : (c : Command) (r : Request) (old new : Outside) → CommandTo c r StoreFault old new → Rose old.store.faults new.store.faults
+store_fault_in Plain r old new (inl stopped) = failed_read old.store new.store (image_name r) stopped.0
+store_fault_in Plain r old new (inr a) = failed_run r old new a
+store_fault_in Rewrite r old new h = absurd (let e : StoreFault ≡ NotBuilt = h.0 in cc)
+store_fault_in Run r old new h = absurd (let e : StoreFault ≡ NotBuilt = h.0 in cc)
+store_fault_in Trace r old new h = absurd (let e : StoreFault ≡ NotBuilt = h.0 in cc)
+store_fault_in Demo r old new h = absurd (let e : StoreFault ≡ NotBuilt = h.0 in cc)
+store_fault_in Replay r old new h = absurd (let e : StoreFault ≡ NotBuilt = h.0 in cc)
+store_fault_in Plan r old new h = absurd (let e : StoreFault ≡ NotBuilt = h.0 in cc)
+
+store_fault_by : (o : Option Request) (old new : Outside) → ByMemory o StoreFault old new → Rose old.store.faults new.store.faults
+store_fault_by o old new (inl h) = absurd (let e : StoreFault ≡ NoMemory = h.0 in cc)
+store_fault_by None old new (inr h) = absurd (let e : StoreFault ≡ Usage = h.0 in cc)
+store_fault_by (Some r) old new (inr h) = store_fault_in r.command r old (record new { err = h.0 }) h.1
+
+-- a fault of the store has its cause
 pub store_fault-Rose : (words : List (List ℕ)) (status : Status) (old new : Outside) → IsOutcome words status old new → status ≡ StoreFault
     → Rose old.store.faults new.store.faults
-store_fault-Rose words status old new h e =
-    store_fault_by (image_name words) old new (subst (λ s. ByName (image_name words) s old new) e h.by)
+store_fault-Rose words status old new h e = store_fault_by (command_of words) old new (outcome_by words status StoreFault old new h e)
+
+-- ---- faults of a sink
 
 -- the puts of a text never lower a count
 later_text : (a b : SinkState) (text : List ℕ) (whole : Bool) → PutsText a text whole b → a.faults ≤ b.faults
@@ -41,24 +81,80 @@ later_text a b text false h = h.1.later
 later_Rose : (a b c : ℕ) → Rose a b → b ≤ c → Rose a c
 later_Rose a b c h l = omega arith
 
-sink_fault_by : (o : Option (List ℕ)) (old new : Outside) → ByName o SinkFault old new
-    → Rose old.out.faults new.out.faults ⊎ Rose old.err.faults new.err.faults
-sink_fault_by None old new h = absurd (let e : SinkFault ≡ NotBuilt = h.0 in cc)
-sink_fault_by (Some name) old new h =
-    let later : h.0.faults ≤ new.err.faults = later_text h.0 new.err (text_of SinkFault name) h.2.0 h.2.1 in
-    let run = h.1.came in
-    elim (subst (λ e. HasSinkCause old.out old.err e new.out h.0) run.gives run.runs.cause) [ inl r ↦ inl r | inr r ↦ inr (later_Rose old.err.faults h.0.faults new.err.faults r later) ]
+-- a count of standard output or of standard error rose
+abbrev pub SinkRose : Outside → Outside → Type 0
+SinkRose old new = Rose old.out.faults new.out.faults ⊎ Rose old.err.faults new.err.faults
 
-pub sink_fault-Rose : (words : List (List ℕ)) (status : Status) (old new : Outside) → IsOutcome words status old new → status ≡ SinkFault
-    → Rose old.out.faults new.out.faults ⊎ Rose old.err.faults new.err.faults
-sink_fault-Rose words status old new h e =
-    sink_fault_by (image_name words) old new (subst (λ s. ByName (image_name words) s old new) e h.by)
+-- a run that a fault of a sink has ended
+pub put_failed : (r : Request) (old new : Outside) → Accepted r SinkFault old new → SinkRose old new
+put_failed r old new a = subst (λ e. HasSinkCause old.out old.err e new.out new.err) a.ran.gives a.ran.runs.cause
 
-absent_by : (o : Option (List ℕ)) (old new : Outside) → ByName o Absent old new → IfSome o (λ name. IfSome old.store.files (λ files. files name ≡ None))
-absent_by None old new h = tt
-absent_by (Some name) old new h = h.1.0.told
+sink_fault_in : (c : Command) (r : Request) (old new : Outside) → CommandTo c r SinkFault old new → SinkRose old new
+sink_fault_in Plain r old new a = put_failed r old new a
+sink_fault_in Rewrite r old new h = absurd (let e : SinkFault ≡ NotBuilt = h.0 in cc)
+sink_fault_in Run r old new h = absurd (let e : SinkFault ≡ NotBuilt = h.0 in cc)
+sink_fault_in Trace r old new h = absurd (let e : SinkFault ≡ NotBuilt = h.0 in cc)
+sink_fault_in Demo r old new h = absurd (let e : SinkFault ≡ NotBuilt = h.0 in cc)
+sink_fault_in Replay r old new h = absurd (let e : SinkFault ≡ NotBuilt = h.0 in cc)
+sink_fault_in Plan r old new h = absurd (let e : SinkFault ≡ NotBuilt = h.0 in cc)
 
+-- what rose before the text was told has risen after it
+told_after : (old new : Outside) (err : SinkState) → SinkRose old (record new { err = err }) → err.faults ≤ new.err.faults → SinkRose old new
+told_after old new err (inl r) l = inl r
+told_after old new err (inr r) l = inr (later_Rose old.err.faults err.faults new.err.faults r l)
+
+sink_fault_by : (o : Option Request) (old new : Outside) → ByMemory o SinkFault old new → SinkRose old new
+sink_fault_by o old new (inl h) = absurd (let e : SinkFault ≡ NoMemory = h.0 in cc)
+sink_fault_by None old new (inr h) = absurd (let e : SinkFault ≡ Usage = h.0 in cc)
+sink_fault_by (Some r) old new (inr h) =
+    told_after old new h.0 (sink_fault_in r.command r old (record new { err = h.0 }) h.1)
+    (later_text h.0 new.err (text_of SinkFault (image_name r)) h.2.0 h.2.1)
+
+-- a fault of a sink has its cause
+pub sink_fault-Rose : (words : List (List ℕ)) (status : Status) (old new : Outside) → IsOutcome words status old new → status ≡ SinkFault → SinkRose old new
+sink_fault-Rose words status old new h e = sink_fault_by (command_of words) old new (outcome_by words status SinkFault old new h e)
+
+-- ---- absent files
+
+-- the store's files lack the image
+abbrev pub Lacks : Request → StoreState → Type 0
+Lacks r store = IfSome store.files (λ files. files (image_name r) ≡ None)
+
+absent_in : (c : Command) (r : Request) (old new : Outside) → CommandTo c r Absent old new → Lacks r old.store
+absent_in Plain r old new h = h.0.told
+absent_in Rewrite r old new h = absurd (let e : Absent ≡ NotBuilt = h.0 in cc)
+absent_in Run r old new h = absurd (let e : Absent ≡ NotBuilt = h.0 in cc)
+absent_in Trace r old new h = absurd (let e : Absent ≡ NotBuilt = h.0 in cc)
+absent_in Demo r old new h = absurd (let e : Absent ≡ NotBuilt = h.0 in cc)
+absent_in Replay r old new h = absurd (let e : Absent ≡ NotBuilt = h.0 in cc)
+absent_in Plan r old new h = absurd (let e : Absent ≡ NotBuilt = h.0 in cc)
+
+absent_by : (o : Option Request) (old new : Outside) → ByMemory o Absent old new → IfSome o (λ r. Lacks r old.store)
+absent_by o old new (inl h) = absurd (let e : Absent ≡ NoMemory = h.0 in cc)
+absent_by None old new (inr h) = tt
+absent_by (Some r) old new (inr h) = absent_in r.command r old (record new { err = h.0 }) h.1
+
+-- an absent file is one that the store's files lack
 pub absent-told : (words : List (List ℕ)) (status : Status) (old new : Outside) → IsOutcome words status old new → status ≡ Absent
-    → IfSome (image_name words) (λ name. IfSome old.store.files (λ files. files name ≡ None))
-absent-told words status old new h e =
-    absent_by (image_name words) old new (subst (λ s. ByName (image_name words) s old new) e h.by)
+    → IfSome (command_of words) (λ r. Lacks r old.store)
+absent-told words status old new h e = absent_by (command_of words) old new (outcome_by words status Absent old new h e)
+
+-- ---- usage
+
+not_usage : (c : Command) (r : Request) (old new : Outside) → CommandTo c r Usage old new → ⊥
+not_usage Plain r old new h = h
+not_usage Rewrite r old new h = let e : Usage ≡ NotBuilt = h.0 in cc
+not_usage Run r old new h = let e : Usage ≡ NotBuilt = h.0 in cc
+not_usage Trace r old new h = let e : Usage ≡ NotBuilt = h.0 in cc
+not_usage Demo r old new h = let e : Usage ≡ NotBuilt = h.0 in cc
+not_usage Replay r old new h = let e : Usage ≡ NotBuilt = h.0 in cc
+not_usage Plan r old new h = let e : Usage ≡ NotBuilt = h.0 in cc
+
+usage_by : (o : Option Request) (old new : Outside) → ByMemory o Usage old new → o ≡ None
+usage_by o old new (inl h) = absurd (let e : Usage ≡ NoMemory = h.0 in cc)
+usage_by None old new (inr h) = refl
+usage_by (Some r) old new (inr h) = absurd (not_usage r.command r old (record new { err = h.0 }) h.1)
+
+-- words that are refused are no command line
+pub usage-none : (words : List (List ℕ)) (status : Status) (old new : Outside) → IsOutcome words status old new → status ≡ Usage → command_of words ≡ None
+usage-none words status old new h e = usage_by (command_of words) old new (outcome_by words status Usage old new h e)

@@ -1,9 +1,9 @@
 -- The outcome where the store tells its files and no count rises.
-use Rattle.spec_base.specs.Layout.{file_limit}
-use Rattle.std.proofs.Common.{◌≡◌, ◌⊎◌, inl, inr, ℕ, ◌≤◌, Bool, true, false, nat_lt, List, length, arith, sym, ap, subst, refl, Some, None, Option, IfSome, Result, Ok, Err}
+use Rattle.std.proofs.Common.{◌≡◌, ◌⊎◌, inl, inr, ℕ, ◌≤◌, Bool, true, false, nat_lt, List, [], length, arith, sym, ◌∙◌, ap, subst, refl, Some, None, Option, IfSome, Result, Ok, Err}
 use Rattle.std.proofs.lemmas.Bool.Decides.{nat_tests}
 use Rattle.spec_base.specs.Files.{Files}
-use Rattle.spec_base.specs.declared.layout.Version.TheVariants.{Two}
+use Rattle.spec_base.specs.Layout.{file_limit}
+use Rattle.spec_base.specs.declared.machine.Trap.{Trap}
 use Rattle.world_io.specs.Outside.{StoreState, SinkState, Rose, Steady}
 use Rattle.world_io.specs.Texts.{PutsText}
 use Rattle.whole_file.specs.Reading.{ReadsWhole, SaysOf}
@@ -11,66 +11,134 @@ use Rattle.whole_file.specs.declared.reading.ReadFault.{ReadFault}
 use Rattle.whole_file.specs.declared.reading.ReadFault.TheVariants as read
 use Rattle.elf_image.specs.Profile.{profile}
 use Rattle.elf_image.specs.declared.refusal.Refusal.{Refusal}
-use Rattle.plain_runner.specs.Runs.{HasSinkCause}
-use Rattle.spechint_commands.specs.Words.{image_name}
+use Rattle.program_model.specs.PlainRun.{State, Image as Program, Taken}
+use Rattle.command_words.specs.CommandLine.{command_of}
+use Rattle.command_words.specs.declared.command.Command.{Command}
+use Rattle.command_words.specs.declared.command.Command.TheVariants.{Plain, Rewrite, Run, Trace, Demo, Replay, Plan}
+use Rattle.command_words.specs.declared.request.Request.{Request}
+use Rattle.plain_runner.specs.Runs.{Outside, EndsBy, Agrees}
+use Rattle.plain_runner.specs.declared.ending.Ending.TheVariants as ending
 use Rattle.spechint_commands.specs.Texts.{text_of}
-use Rattle.spechint_commands.specs.Top.{Outside, Silent, Runs, Accepted, PlainTo, IsOutcome}
-use Rattle.spechint_commands.specs.Defined.{ByProfile, BySize, ByFile, DefinedBy, IsDefined, IsSteady}
+use Rattle.spechint_commands.specs.Top.{Silent, EndingStatus, Runs, Accepted, PlainTo, CommandTo, IsOutcome, image_name}
+use Rattle.spechint_commands.specs.Defined.{EndsAs, IsPlainRun, ByProfile, BySize, ByFile, ByCommand, ByRequest, IsDefined, IsSteady}
 use Rattle.spechint_commands.specs.declared.status.Status.{Status}
-use Rattle.spechint_commands.specs.declared.status.Status.TheVariants.{Exited, Trapped, TurnsOver, NotBuilt, Absent, Refused, StoreFault, SinkFault, NoMemory}
-use Rattle.spechint_commands.proofs.Causes.{ByName, failed_read}
+use Rattle.spechint_commands.specs.declared.status.Status.TheVariants.{Done, Exited, Trapped, TurnsOver, Usage, NotBuilt, Absent, Refused, StoreFault, SinkFault, NoMemory}
+use Rattle.spechint_commands.proofs.Causes.{ByMemory, SinkRose, failed_read, failed_run, put_failed}
 
+-- ---- runs
+
+-- statuses of a program that has come to its end, or to the end of its turns
+abbrev pub IsEnd : Status → Type 0
+IsEnd (Exited code) = Unit {0}
+IsEnd (Trapped cause pc) = Unit {0}
+IsEnd (TurnsOver count) = Unit {0}
+IsEnd other = ⊥
+
+-- a run that told its files is the plain run over these
+run-IsPlainRun : (p : Program) (files : Files) (turns : ℕ) (status : Status) (old new : Outside) → old.store.files ≡ Some files → IsEnd status
+    → Runs p turns status old new → IsPlainRun p files turns status old new
+run-IsPlainRun p files turns status old new e end h =
+    let r = h.runs in
+    record {
+      n = r.n;
+      state = r.state;
+      outs = r.outs;
+      errs = r.errs;
+      reached = λ t a. (r.reached files t (r.told files e) a).state;
+      ends = λ t a. ends_as status end h.gives t;
+      out = r.out_is;
+      err = r.err_is;
+      out_log = r.out_log;
+      err_log = r.err_log;
+    }
+  where
+    ends_as : (s : Status) → IsEnd s → EndingStatus h.end s → (t : Taken) → EndsAs p files t turns h.runs.n h.runs.state s
+    ends_as (Exited code) is gives t = subst (λ d. EndsBy p turns h.runs.n h.runs.state d) gives h.runs.ends
+    ends_as (Trapped cause pc) is gives t = (let by = subst (λ d. EndsBy p turns h.runs.n h.runs.state d) gives h.runs.ends in (by.0, by.1, by.2 files t))
+    ends_as (TurnsOver count) is gives t = subst (λ d. EndsBy p turns h.runs.n h.runs.state d) gives h.runs.ends
+    ends_as Done is gives t = absurd is
+    ends_as Usage is gives t = absurd is
+    ends_as NotBuilt is gives t = absurd is
+    ends_as Absent is gives t = absurd is
+    ends_as (Refused why) is gives t = absurd is
+    ends_as StoreFault is gives t = absurd is
+    ends_as SinkFault is gives t = absurd is
+    ends_as NoMemory is gives t = absurd is
+
+-- ---- files
+
+-- what a reading says of a file that is told
 told_of : (a b : StoreState) (name : List ℕ) (answer : Result (List ℕ) ReadFault) (files : Files) → a.files ≡ Some files
     → (r : ReadsWhole a name answer b) → SaysOf (files name) answer r.log
 told_of a b name answer files e r = subst (λ o. IfSome o (λ f. SaysOf (f name) answer r.log)) e r.told
 
 -- a file that was read, by what the profile says of it
-judged : (name : List ℕ) (files : Files) (bytes : List ℕ) (status : Status) (old new : Outside) → files name ≡ Some bytes → length bytes ≤ file_limit
-    → ByProfile (profile bytes Two) bytes name status old new → ByFile (files name) name status old new
-judged name files bytes status old new file few by =
+judged : (r : Request) (files : Files) (bytes : List ℕ) (status : Status) (old new : Outside) → files (image_name r) ≡ Some bytes → length bytes ≤ file_limit
+    → ByProfile (profile bytes r.options.layout) files bytes r status old new → ByFile (files (image_name r)) files r status old new
+judged r files bytes status old new file few by =
     let small : nat_lt file_limit (length bytes) ≡ false = grind (arith, nat_tests) in
-    subst (λ f. ByFile f name status old new) (sym file) (subst (λ b. BySize b bytes name status old new) (sym small) by)
+    subst (λ f. ByFile f files r status old new) (sym file) (subst (λ b. BySize b files bytes r status old new) (sym small) by)
 
-ran : (name : List ℕ) (files : Files) (status : Status) (old new : Outside) → old.store.files ≡ Some files → (a : Accepted name status old new)
-    → Runs a.bytes a.image name status old.out old.err new.out new.err → ByFile (files name) name status old new
-ran name files status old new e a runs =
-    let told = told_of old.store new.store name (Ok a.bytes) files e a.read in
-    judged name files a.bytes status old new told.0 told.1 (subst (λ r. ByProfile r a.bytes name status old new) (sym a.accepted) runs)
+-- an accepted file's program came to its end
+ran : (r : Request) (files : Files) (status : Status) (old new : Outside) → old.store.files ≡ Some files → IsEnd status → Accepted r status old new
+    → ByFile (files (image_name r)) files r status old new
+ran r files status old new e end a =
+    let told = told_of old.store a.between (image_name r) (Ok a.bytes) files e a.read in
+    let run = run-IsPlainRun _ files r.options.turns status (record old { store = a.between }) new (a.read.went.keeps.files ∙ e) end a.ran in
+    judged r files a.bytes status old new told.0 told.1
+    (subst (λ v. ByProfile v files a.bytes r status old new) (sym a.accepted)
+    (record { n = run.n; state = run.state; outs = run.outs; errs = run.errs; reached = run.reached; ends = run.ends; out = run.out; err = run.err; out_log = run.out_log; err_log = run.err_log }))
 
+-- a count that rose didn't stay
 clash : (a b : ℕ) → Rose a b → Steady a b → ⊥
 clash a b r s = omega arith
 
-no_sink_fault : (out err out_new err_new : SinkState) → Rose out.faults out_new.faults ⊎ Rose err.faults err_new.faults
-    → Steady out.faults out_new.faults → Steady err.faults err_new.faults → ⊥
-no_sink_fault out err out_new err_new (inl up) o r = clash out.faults out_new.faults up o
-no_sink_fault out err out_new err_new (inr up) o r = clash err.faults err_new.faults up r
+no_sink_fault : (old new : Outside) → SinkRose old new → Steady old.out.faults new.out.faults → Steady old.err.faults new.err.faults → ⊥
+no_sink_fault old new (inl up) o r = clash old.out.faults new.out.faults up o
+no_sink_fault old new (inr up) o r = clash old.err.faults new.err.faults up r
 
-refused : (name : List ℕ) (files : Files) (why : Refusal) (old new : Outside) → old.store.files ≡ Some files → PlainTo name (Refused why) old new
-    → ByFile (files name) name (Refused why) old new
-refused name files why old new e (inl (stopped, long)) =
-    let told = told_of old.store new.store name (Err read.TooLong) files e stopped.0 in
+refused : (r : Request) (files : Files) (why : Refusal) (old new : Outside) → old.store.files ≡ Some files → PlainTo r (Refused why) old new
+    → ByFile (files (image_name r)) files r (Refused why) old new
+refused r files why old new e (inl (stopped, long)) =
+    let told = told_of old.store new.store (image_name r) (Err read.TooLong) files e stopped.0 in
     let large : nat_lt file_limit (length told.0) ≡ true = (let more = told.2 in grind (arith, nat_tests)) in
-    subst (λ f. ByFile f name (Refused why) old new) (sym told.1)
-    (subst (λ b. BySize b told.0 name (Refused why) old new) (sym large) (ap (λ w. Refused w) long, stopped.1))
-refused name files why old new e (inr (bytes, whole, verdict, silent)) =
-    let told = told_of old.store new.store name (Ok bytes) files e whole in
-    judged name files bytes (Refused why) old new told.0 told.1 (subst (λ r. ByProfile r bytes name (Refused why) old new) (sym verdict) (refl, silent))
+    subst (λ f. ByFile f files r (Refused why) old new) (sym told.1)
+    (subst (λ b. BySize b files told.0 r (Refused why) old new) (sym large) (ap (λ w. Refused w) long, stopped.1))
+refused r files why old new e (inr (bytes, whole, verdict, silent)) =
+    let told = told_of old.store new.store (image_name r) (Ok bytes) files e whole in
+    judged r files bytes (Refused why) old new told.0 told.1 (subst (λ v. ByProfile v files bytes r (Refused why) old new) (sym verdict) (refl, silent))
 
-by_status : (name : List ℕ) (files : Files) (status : Status) (old new : Outside) → old.store.files ≡ Some files → PlainTo name status old new
+-- `plain`, status by status
+by_status : (r : Request) (files : Files) (status : Status) (old new : Outside) → old.store.files ≡ Some files → PlainTo r status old new
     → Steady old.store.faults new.store.faults → Steady old.out.faults new.out.faults → Steady old.err.faults new.err.faults
-    → (status ≡ NoMemory) ⊎ ByFile (files name) name status old new
-by_status name files (Exited c) old new e h s o r = inr (ran name files (Exited c) old new e h h.came)
-by_status name files (Trapped t pc) old new e h s o r = inr (ran name files (Trapped t pc) old new e h h.came)
-by_status name files (TurnsOver count) old new e h s o r = inr (ran name files (TurnsOver count) old new e h h.came)
-by_status name files NotBuilt old new e h s o r = inr (ran name files NotBuilt old new e h h.came)
-by_status name files Absent old new e h s o r =
-    (let file = told_of old.store new.store name (Err read.Absent) files e h.0 in
-    inr (subst (λ f. ByFile f name Absent old new) (sym file) (refl, h.1)))
-by_status name files (Refused why) old new e h s o r = inr (refused name files why old new e h)
-by_status name files StoreFault old new e h s o r = absurd (clash old.store.faults new.store.faults (failed_read old.store new.store name h.0) s)
-by_status name files SinkFault old new e h s o r =
-    absurd (let run = h.came in no_sink_fault old.out old.err new.out new.err (subst (λ d. HasSinkCause old.out old.err d new.out new.err) run.gives run.runs.cause) o r)
-by_status name files NoMemory old new e h s o r = inl refl
+    → (status ≡ NoMemory) ⊎ ByFile (files (image_name r)) files r status old new
+by_status r files (Exited c) old new e h s o w = inr (ran r files (Exited c) old new e tt h)
+by_status r files (Trapped t pc) old new e h s o w = inr (ran r files (Trapped t pc) old new e tt h)
+by_status r files (TurnsOver count) old new e h s o w = inr (ran r files (TurnsOver count) old new e tt h)
+by_status r files Absent old new e h s o w =
+    (let file = told_of old.store new.store (image_name r) (Err read.Absent) files e h.0 in
+    inr (subst (λ f. ByFile f files r Absent old new) (sym file) (refl, h.1)))
+by_status r files (Refused why) old new e h s o w = inr (refused r files why old new e h)
+by_status r files StoreFault old new e (inl stopped) s o w = absurd (clash old.store.faults new.store.faults (failed_read old.store new.store (image_name r) stopped.0) s)
+by_status r files StoreFault old new e (inr a) s o w = absurd (clash old.store.faults new.store.faults (failed_run r old new a) s)
+by_status r files SinkFault old new e a s o w = absurd (no_sink_fault old new (put_failed r old new a) o w)
+by_status r files NoMemory old new e h s o w = inl refl
+by_status r files Done old new e h s o w = absurd h
+by_status r files Usage old new e h s o w = absurd h
+by_status r files NotBuilt old new e h s o w = absurd h
+
+-- ---- commands
+
+by_command : (c : Command) (r : Request) (files : Files) (status : Status) (old new : Outside) → old.store.files ≡ Some files → CommandTo c r status old new
+    → Steady old.store.faults new.store.faults → Steady old.out.faults new.out.faults → Steady old.err.faults new.err.faults
+    → (status ≡ NoMemory) ⊎ ByCommand c files r status old new
+by_command Plain r files status old new e h s o w = by_status r files status old new e h s o w
+by_command Rewrite r files status old new e h s o w = inr h
+by_command Run r files status old new e h s o w = inr h
+by_command Trace r files status old new e h s o w = inr h
+by_command Demo r files status old new e h s o w = inr h
+by_command Replay r files status old new e h s o w = inr h
+by_command Plan r files status old new e h s o w = inr h
 
 -- ---- the text is whole
 
@@ -78,23 +146,31 @@ silent_err : (old new : Outside) → Silent old new → old.err.faults ≤ new.e
 silent_err old new h = (let same = ap (λ s. s.faults) h.1 in omega arith)
 
 -- a run and a reading never lower the count of standard error
-later_err : (name : List ℕ) (status : Status) (old new : Outside) → PlainTo name status old new → old.err.faults ≤ new.err.faults
-later_err name (Exited c) old new h = h.came.runs.err_log.later
-later_err name (Trapped t pc) old new h = h.came.runs.err_log.later
-later_err name (TurnsOver count) old new h = h.came.runs.err_log.later
-later_err name NotBuilt old new h = h.came.runs.err_log.later
-later_err name SinkFault old new h = h.came.runs.err_log.later
-later_err name Absent old new h = silent_err old new h.1
-later_err name StoreFault old new h = silent_err old new h.1
-later_err name (Refused why) old new (inl (stopped, long)) = silent_err old new stopped.1
-later_err name (Refused why) old new (inr (bytes, whole, verdict, silent)) = silent_err old new silent
-later_err name NoMemory old new (inl (inl stopped)) = silent_err old new stopped.1
-later_err name NoMemory old new (inl (inr (bytes, whole, silent))) = silent_err old new silent
-later_err name NoMemory old new (inr a) = image_err a.came
-  where
-    image_err : ((new.out ≡ old.out) × (new.err ≡ old.err)) ⊎ Runs a.bytes a.image name NoMemory old.out old.err new.out new.err → old.err.faults ≤ new.err.faults
-    image_err (inl silent) = silent_err old new silent
-    image_err (inr run) = run.runs.err_log.later
+later_err : (r : Request) (status : Status) (old new : Outside) → PlainTo r status old new → old.err.faults ≤ new.err.faults
+later_err r (Exited c) old new a = a.ran.runs.err_log.later
+later_err r (Trapped t pc) old new a = a.ran.runs.err_log.later
+later_err r (TurnsOver count) old new a = a.ran.runs.err_log.later
+later_err r SinkFault old new a = a.ran.runs.err_log.later
+later_err r Absent old new h = silent_err old new h.1
+later_err r StoreFault old new (inl stopped) = silent_err old new stopped.1
+later_err r StoreFault old new (inr a) = a.ran.runs.err_log.later
+later_err r (Refused why) old new (inl (stopped, long)) = silent_err old new stopped.1
+later_err r (Refused why) old new (inr (bytes, whole, verdict, silent)) = silent_err old new silent
+later_err r NoMemory old new (inl (inl stopped)) = silent_err old new stopped.1
+later_err r NoMemory old new (inl (inr (bytes, image, whole, verdict, silent))) = silent_err old new silent
+later_err r NoMemory old new (inr a) = a.ran.runs.err_log.later
+later_err r Done old new h = absurd h
+later_err r Usage old new h = absurd h
+later_err r NotBuilt old new h = absurd h
+
+later_in : (c : Command) (r : Request) (status : Status) (old new : Outside) → CommandTo c r status old new → old.err.faults ≤ new.err.faults
+later_in Plain r status old new h = later_err r status old new h
+later_in Rewrite r status old new h = silent_err old new h.1.1
+later_in Run r status old new h = silent_err old new h.1.1
+later_in Trace r status old new h = silent_err old new h.1.1
+later_in Demo r status old new h = silent_err old new h.1.1
+later_in Replay r status old new h = silent_err old new h.1.1
+later_in Plan r status old new h = silent_err old new h.1.1
 
 -- a text that was put while the count stood is whole
 whole_text : (a b c : SinkState) (text : List ℕ) (whole : Bool) → a.faults ≤ b.faults → PutsText b text whole c → Steady a.faults c.faults
@@ -102,20 +178,31 @@ whole_text : (a b c : SinkState) (text : List ℕ) (whole : Bool) → a.faults �
 whole_text a b c text true l h s = (h, h.1.later)
 whole_text a b c text false l h s = absurd (let up : Rose b.faults c.faults = h.3 in omega arith)
 
-by_name : (o : Option (List ℕ)) (files : Files) (status : Status) (old new : Outside) → old.store.files ≡ Some files → ByName o status old new
-    → IsSteady old new → DefinedBy o files status old new
-by_name None files status old new e h s = (h.0, h.2, (whole_text old.err old.err new.err _ h.3.0 (omega arith) h.3.1 s.err).0)
-by_name (Some name) files status old new e h s =
-    let mid : Outside = record { store = new.store; out = new.out; err = h.0 } in
-    let later = later_err name status old mid h.1 in
-    let whole = whole_text old.err h.0 new.err (text_of status name) h.2.0 later h.2.1 s.err in
-    let steady : Steady old.err.faults h.0.faults = (let up = whole.1 in let now = s.err in omega arith) in
-    (h.0, by_status name files status old mid e h.1 s.store s.out steady, whole.0)
+-- what a command does, with its text
+with_text : (r : Request) (files : Files) (status : Status) (old new : Outside) (err : SinkState)
+    → PutsText err (text_of status (image_name r)) true new.err
+    → (status ≡ NoMemory) ⊎ ByCommand r.command files r status old (record new { err = err }) → (status ≡ NoMemory) ⊎ ByRequest (Some r) files status old new
+with_text r files status old new err puts (inl e) = inl e
+with_text r files status old new err puts (inr by) = inr (err, by, puts)
 
+by_request : (o : Option Request) (files : Files) (status : Status) (old new : Outside) → old.store.files ≡ Some files → ByMemory o status old new
+    → IsSteady old new → (status ≡ NoMemory) ⊎ ByRequest o files status old new
+by_request o files status old new e (inl h) s = inl h.0
+by_request None files status old new e (inr h) s =
+    let told = h.1 in
+    inr (h.0, told.0, told.1, (whole_text old.err old.err new.err (text_of Usage []) told.2.0 (omega arith) told.2.1 s.err).0)
+by_request (Some r) files status old new e (inr h) s =
+    let mid : Outside = record new { err = h.0 } in
+    let later = later_in r.command r status old mid h.1 in
+    let whole = whole_text old.err h.0 new.err (text_of status (image_name r)) h.2.0 later h.2.1 s.err in
+    let steady : Steady old.err.faults h.0.faults = (let up = whole.1 in let now = s.err in omega arith) in
+    with_text r files status old new h.0 whole.0 (by_command r.command r files status old mid e h.1 s.store s.out steady)
+
+-- the outcome is the defined one
 pub outcome-IsDefined : (words : List (List ℕ)) (status : Status) (old new : Outside) → IsOutcome words status old new
     → IfSome old.store.files (λ files. IsSteady old new → IsDefined words files status old new)
 outcome-IsDefined words status old new h = by old.store.files refl
   where
     by : (o : Option Files) → old.store.files ≡ o → IfSome o (λ files. IsSteady old new → IsDefined words files status old new)
     by None e = tt
-    by (Some files) e = λ s. record { by = by_name (image_name words) files status old new e h.by s }
+    by (Some files) e = λ s. record { by = by_request (command_of words) files status old new e h.by s }

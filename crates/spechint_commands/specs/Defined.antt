@@ -1,43 +1,92 @@
 -- What the top call does where the store tells its files and no count of faults rises (this project's own).
 use Rattle.spec_base.specs.Layout.{file_limit}
-use Rattle.std.specs.Prelude.{◌≡◌, ◌⊎◌, ℕ, Bool, true, false, nat_lt, List, [], length, Option, Some, None, Result, Ok, Err}
+use Rattle.std.specs.Prelude.{◌≡◌, ◌⊎◌, ℕ, ◌≤◌, ◌<◌, Bool, true, false, nat_lt, List, [], length, Option, Some, None, Result, Ok, Err}
 use Rattle.spec_base.specs.Files.{Files}
-use Rattle.spec_base.specs.declared.layout.Version.TheVariants.{Two}
 use Rattle.world_io.specs.Outside.{SinkState, Steady}
+use Rattle.world_io.specs.Logs.{Piece, SinkLog}
 use Rattle.world_io.specs.Texts.{PutsText}
 use Rattle.elf_image.specs.Profile.{profile}
 use Rattle.elf_image.specs.declared.image.Image.{Image}
 use Rattle.elf_image.specs.declared.refusal.Refusal.{Refusal}
 use Rattle.elf_image.specs.declared.refusal.Refusal.TheVariants.{TooLong}
-use Rattle.spechint_commands.specs.Words.{image_name}
+use Rattle.program_model.specs.PlainRun.{State, Image as Program, Taken, plain_state, TrapsAt, end_of}
+use Rattle.plain_runner.specs.Runs.{Outside, Agrees, output_of}
+use Rattle.command_words.specs.CommandLine.{command_of}
+use Rattle.command_words.specs.declared.command.Command.{Command}
+use Rattle.command_words.specs.declared.command.Command.TheVariants.{Plain, Rewrite, Run, Trace, Demo, Replay, Plan}
+use Rattle.command_words.specs.declared.request.Request.{Request}
 use Rattle.spechint_commands.specs.Texts.{text_of}
-use Rattle.spechint_commands.specs.Top.{Outside, Silent, Runs}
+use Rattle.spechint_commands.specs.Top.{Silent, Untouched, image_name, asked_program}
 use Rattle.spechint_commands.specs.declared.status.Status.{Status}
-use Rattle.spechint_commands.specs.declared.status.Status.TheVariants.{NotBuilt, Absent, Refused, NoMemory}
+use Rattle.spechint_commands.specs.declared.status.Status.TheVariants.{Done, Exited, Trapped, TurnsOver, Usage, NotBuilt, Absent, Refused, StoreFault, SinkFault, NoMemory}
+
+-- ---- a program's run
+
+-- the status of a plain program that has completed n instructions, of so many that are allowed, and stands in this state
+abbrev pub EndsAs : Program → Files → Taken → ℕ → ℕ → State → Status → Type 0
+EndsAs p files t turns n s (Exited code) = (n ≤ turns) × (s.exited ≡ Some code)
+EndsAs p files t turns n s (Trapped cause pc) = (n < turns) × (s.exited ≡ None) × (end_of p files t s ≡ TrapsAt cause pc)
+EndsAs p files t turns n s (TurnsOver count) = (n ≡ turns) × (s.exited ≡ None) × (count ≡ turns)
+EndsAs p files t turns n s Done = ⊥
+EndsAs p files t turns n s Usage = ⊥
+EndsAs p files t turns n s NotBuilt = ⊥
+EndsAs p files t turns n s Absent = ⊥
+EndsAs p files t turns n s (Refused why) = ⊥
+EndsAs p files t turns n s StoreFault = ⊥
+EndsAs p files t turns n s SinkFault = ⊥
+EndsAs p files t turns n s NoMemory = ⊥
+
+-- the plain program runs over the told files, for all counts that agree with what the sinks took; what it put is what they took, and its end is the status
+pub record IsPlainRun (p : Program) (files : Files) (turns : ℕ) (status : Status) (old new : Outside) : Type 0 where
+  pub n : ℕ
+  pub state : State
+  pub outs : List Piece
+  pub errs : List Piece
+  pub reached : (t : Taken) → Agrees t outs errs → plain_state p files t n ≡ Some state
+  pub ends : (t : Taken) → Agrees t outs errs → EndsAs p files t turns n state status
+  pub out : state.out ≡ output_of outs
+  pub err : state.err ≡ output_of errs
+  pub out_log : SinkLog old.out outs new.out
+  pub err_log : SinkLog old.err errs new.err
+
+-- ---- the command `plain`
 
 -- an accepted file's program runs, and another file is refused
-abbrev pub ByProfile : Result Image Refusal → List ℕ → List ℕ → Status → Outside → Outside → Type 0
-ByProfile (Ok image) bytes name status old new = Runs bytes image name status old.out old.err new.out new.err
-ByProfile (Err why) bytes name status old new = (status ≡ Refused why) × Silent old new
+abbrev pub ByProfile : Result Image Refusal → Files → List ℕ → Request → Status → Outside → Outside → Type 0
+ByProfile (Ok image) files bytes r status old new = IsPlainRun (asked_program r bytes image) files r.options.turns status old new
+ByProfile (Err why) files bytes r status old new = (status ≡ Refused why) × Silent old new
 
 -- a file that is too long is refused unread
-abbrev pub BySize : Bool → List ℕ → List ℕ → Status → Outside → Outside → Type 0
-BySize true bytes name status old new = (status ≡ Refused TooLong) × Silent old new
-BySize false bytes name status old new = ByProfile (profile bytes Two) bytes name status old new
+abbrev pub BySize : Bool → Files → List ℕ → Request → Status → Outside → Outside → Type 0
+BySize true files bytes r status old new = (status ≡ Refused TooLong) × Silent old new
+BySize false files bytes r status old new = ByProfile (profile bytes r.options.layout) files bytes r status old new
 
-abbrev pub ByFile : Option (List ℕ) → List ℕ → Status → Outside → Outside → Type 0
-ByFile None name status old new = (status ≡ Absent) × Silent old new
-ByFile (Some bytes) name status old new = BySize (nat_lt file_limit (length bytes)) bytes name status old new
+-- by whether there is such a file
+abbrev pub ByFile : Option (List ℕ) → Files → Request → Status → Outside → Outside → Type 0
+ByFile None files r status old new = (status ≡ Absent) × Silent old new
+ByFile (Some bytes) files r status old new = BySize (nat_lt file_limit (length bytes)) files bytes r status old new
 
-abbrev pub DefinedBy : Option (List ℕ) → Files → Status → Outside → Outside → Type 0
-DefinedBy None files status old new = (status ≡ NotBuilt) × (new.out ≡ old.out) × PutsText old.err (text_of NotBuilt []) true new.err
-DefinedBy (Some name) files status old new =
-    (err : SinkState) × ((status ≡ NoMemory) ⊎ ByFile (files name) name status old (record { store = new.store; out = new.out; err = err }))
-    × PutsText err (text_of status name) true new.err
+-- ---- all commands
 
--- the status and the bytes on both sinks are those of the file and of its run, or memory was wanting
+-- by the command
+abbrev pub ByCommand : Command → Files → Request → Status → Outside → Outside → Type 0
+ByCommand Plain files r status old new = ByFile (files (image_name r)) files r status old new
+ByCommand Rewrite files r status old new = (status ≡ NotBuilt) × Untouched old new
+ByCommand Run files r status old new = (status ≡ NotBuilt) × Untouched old new
+ByCommand Trace files r status old new = (status ≡ NotBuilt) × Untouched old new
+ByCommand Demo files r status old new = (status ≡ NotBuilt) × Untouched old new
+ByCommand Replay files r status old new = (status ≡ NotBuilt) × Untouched old new
+ByCommand Plan files r status old new = (status ≡ NotBuilt) × Untouched old new
+
+-- by whether the words are a command line
+abbrev pub ByRequest : Option Request → Files → Status → Outside → Outside → Type 0
+ByRequest None files status old new = (status ≡ Usage) × (new.store ≡ old.store) × (new.out ≡ old.out) × PutsText old.err (text_of Usage []) true new.err
+ByRequest (Some r) files status old new =
+    (err : SinkState) × ByCommand r.command files r status old (record new { err = err }) × PutsText err (text_of status (image_name r)) true new.err
+
+-- the status and the bytes on both sinks are those of the words, of the file and of its program's run, or memory was wanting
 pub record IsDefined (words : List (List ℕ)) (files : Files) (status : Status) (old new : Outside) : Type 0 where
-  pub by : DefinedBy (image_name words) files status old new
+  pub by : (status ≡ NoMemory) ⊎ ByRequest (command_of words) files status old new
 
 -- no count rose
 pub record IsSteady (old new : Outside) : Type 0 where

@@ -1,6 +1,5 @@
 -- What the top call does, status by status (this project's own).
-use Rattle.std.specs.Prelude.{◌≡◌, ◌⊎◌, ℕ, ◌-◌, ◌^◌, Bool, List, [], ◌∷◌, Ok, Err, MatchOption}
-use Rattle.spec_base.specs.declared.layout.Version.TheVariants.{Two}
+use Rattle.std.specs.Prelude.{◌≡◌, ◌⊎◌, ℕ, Bool, List, [], slice_index_or, Ok, Err, MatchOption}
 use Rattle.world_io.specs.Outside.{StoreState, SinkState}
 use Rattle.world_io.specs.Texts.{PutsText}
 use Rattle.whole_file.specs.Reading.{ReadsWhole}
@@ -10,102 +9,133 @@ use Rattle.elf_image.specs.declared.refusal.Refusal.{Refusal}
 use Rattle.elf_image.specs.declared.refusal.Refusal.TheVariants.{TooLong}
 use Rattle.elf_image.specs.declared.image.Image.{Image}
 use Rattle.elf_image.specs.Profile.{profile}
-use Rattle.spechint_commands.specs.Words.{image_name}
-use Rattle.spechint_commands.specs.Texts.{text_of}
+use Rattle.rv_model.specs.Space.{Space}
+use Rattle.program_model.specs.Descriptors.{Descriptors}
+use Rattle.program_model.specs.PlainRun.{Image as Program}
+use Rattle.hart_step.specs.Core.{Core}
 use Rattle.program_loader.specs.Programs.{program_of}
-use Rattle.plain_runner.specs.Runs.{RunsTo}
+use Rattle.plain_runner.specs.Runs.{Outside, RunsTo}
 use Rattle.plain_runner.specs.declared.ending.Ending.{Ending}
 use Rattle.plain_runner.specs.declared.ending.Ending.TheVariants as ending
+use Rattle.command_words.specs.CommandLine.{command_of}
+use Rattle.command_words.specs.declared.command.Command.{Command}
+use Rattle.command_words.specs.declared.command.Command.TheVariants.{Plain, Rewrite, Run, Trace, Demo, Replay, Plan}
+use Rattle.command_words.specs.declared.request.Request.{Request}
+use Rattle.spechint_commands.specs.Texts.{text_of}
 use Rattle.spechint_commands.specs.declared.status.Status.{Status}
-use Rattle.spechint_commands.specs.declared.status.Status.TheVariants.{Exited, Trapped, TurnsOver, NotBuilt, Absent, Refused, StoreFault, SinkFault, NoMemory}
+use Rattle.spechint_commands.specs.declared.status.Status.TheVariants.{Done, Exited, Trapped, TurnsOver, Usage, NotBuilt, Absent, Refused, StoreFault, SinkFault, NoMemory}
 
--- the store and the two sinks
-pub record Outside : Type 0 where
-  pub store : StoreState
-  pub out : SinkState
-  pub err : SinkState
+-- ---- reading the image
 
 -- nothing was put
 abbrev pub Silent : Outside → Outside → Type 0
 Silent old new = (new.out ≡ old.out) × (new.err ≡ old.err)
 
--- the reading of the file came to a fault
-abbrev pub Stopped : List ℕ → ReadFault → Outside → Outside → Type 0
-Stopped name fault old new = ReadsWhole old.store name (Err fault) new.store × Silent old new
+-- nothing was asked of the store, and nothing put
+abbrev pub Untouched : Outside → Outside → Type 0
+Untouched old new = (new.store ≡ old.store) × Silent old new
+
+-- the name of the image: the first word that a command acts on
+abbrev pub image_name : Request → List ℕ
+image_name r = slice_index_or r.arguments 0 []
+
+-- the reading of the image came to a fault
+abbrev pub Stopped : Request → ReadFault → Outside → Outside → Type 0
+Stopped r fault old new = ReadsWhole old.store (image_name r) (Err fault) new.store × Silent old new
 
 -- the file was read whole, and the profile refuses it
-abbrev pub IsRefused : List ℕ → Refusal → Outside → Outside → Type 0
-IsRefused name refusal old new = (bytes : List ℕ) × ReadsWhole old.store name (Ok bytes) new.store × (profile bytes Two ≡ Err refusal) × Silent old new
+abbrev pub IsRefused : Request → Refusal → Outside → Outside → Type 0
+IsRefused r refusal old new =
+    (bytes : List ℕ) × ReadsWhole old.store (image_name r) (Ok bytes) new.store × (profile bytes r.options.layout ≡ Err refusal) × Silent old new
 
 -- the file was read whole and is accepted, and there was no memory for its image
-abbrev pub IsStarved : List ℕ → Outside → Outside → Type 0
-IsStarved name old new = (bytes : List ℕ) × ReadsWhole old.store name (Ok bytes) new.store × Silent old new
+abbrev pub IsStarved : Request → Outside → Outside → Type 0
+IsStarved r old new =
+    (bytes : List ℕ) × (image : Image) × ReadsWhole old.store (image_name r) (Ok bytes) new.store × (profile bytes r.options.layout ≡ Ok image) × Silent old new
+
+-- ---- running it
 
 -- a run's ending gives a status
 abbrev pub EndingStatus : Ending → Status → Type 0
 EndingStatus end (Exited code) = end ≡ ending.Exited code
 EndingStatus end (Trapped cause pc) = end ≡ ending.Trapped cause pc
 EndingStatus end (TurnsOver count) = end ≡ ending.TurnsOver count
-EndingStatus end NotBuilt = end ≡ ending.NotBuilt
+EndingStatus end StoreFault = end ≡ ending.StoreFault
 EndingStatus end SinkFault = end ≡ ending.SinkFault
 EndingStatus end NoMemory = end ≡ ending.NoMemory
+EndingStatus end Done = ⊥
+EndingStatus end Usage = ⊥
+EndingStatus end NotBuilt = ⊥
 EndingStatus end Absent = ⊥
 EndingStatus end (Refused why) = ⊥
-EndingStatus end StoreFault = ⊥
 
--- how many instructions a program completes at most
-abbrev pub most_turns : ℕ
-most_turns = 2 ^ 64 - 1
-
--- the program of the image ran, and its run ended so
-pub record Runs (bytes : List ℕ) (image : Image) (name : List ℕ) (status : Status) (out err out_new err_new : SinkState) : Type 0 where
+-- a program ran, and its run ended so
+pub record Runs (p : Program) (turns : ℕ) (status : Status) (old new : Outside) : Type 0 where
   pub end : Ending
   pub gives : EndingStatus end status
-  pub runs : RunsTo (program_of Two bytes image (name ∷ [])) most_turns out err end out_new err_new
+  pub core : Core
+  pub space : Space
+  pub files : Descriptors
+  pub runs : RunsTo p turns old end core space files new
 
--- what a status says of an accepted image. Want of memory may come before the run, and then nothing was put
-abbrev pub ImageTo : List ℕ → Image → List ℕ → Status → SinkState → SinkState → SinkState → SinkState → Type 0
-ImageTo bytes image name NoMemory out err out_new err_new =
-    ((out_new ≡ out) × (err_new ≡ err)) ⊎ Runs bytes image name NoMemory out err out_new err_new
-ImageTo bytes image name NotBuilt out err out_new err_new = Runs bytes image name NotBuilt out err out_new err_new
-ImageTo bytes image name (TurnsOver count) out err out_new err_new = Runs bytes image name (TurnsOver count) out err out_new err_new
-ImageTo bytes image name (Exited code) out err out_new err_new = Runs bytes image name (Exited code) out err out_new err_new
-ImageTo bytes image name (Trapped cause pc) out err out_new err_new = Runs bytes image name (Trapped cause pc) out err out_new err_new
-ImageTo bytes image name SinkFault out err out_new err_new = Runs bytes image name SinkFault out err out_new err_new
-ImageTo bytes image name Absent out err out_new err_new = ⊥
-ImageTo bytes image name (Refused why) out err out_new err_new = ⊥
-ImageTo bytes image name StoreFault out err out_new err_new = ⊥
+-- the program that a request asks for
+abbrev pub asked_program : Request → List ℕ → Image → Program
+asked_program r bytes image = program_of r.options.layout bytes image r.arguments
 
--- the file was read whole, the profile accepts it, and its image came to this
-pub record Accepted (name : List ℕ) (status : Status) (old new : Outside) : Type 0 where
+-- the program of an accepted image ran, or there was no memory to load it
+abbrev pub RunsImage : Request → List ℕ → Image → Status → Outside → Outside → Type 0
+RunsImage r bytes image status old new = ((status ≡ NoMemory) × Untouched old new) ⊎ Runs (asked_program r bytes image) r.options.turns status old new
+
+-- the file was read whole, the profile accepts it, and its program ran
+pub record Accepted (r : Request) (status : Status) (old new : Outside) : Type 0 where
   pub bytes : List ℕ
   pub image : Image
-  pub read : ReadsWhole old.store name (Ok bytes) new.store
-  pub accepted : profile bytes Two ≡ Ok image
-  pub came : ImageTo bytes image name status old.out old.err new.out new.err
+  pub between : StoreState
+  pub read : ReadsWhole old.store (image_name r) (Ok bytes) between
+  pub accepted : profile bytes r.options.layout ≡ Ok image
+  pub ran : Runs (asked_program r bytes image) r.options.turns status (record old { store = between }) new
+
+-- ---- commands
 
 -- what a status says of the command `plain`
-abbrev pub PlainTo : List ℕ → Status → Outside → Outside → Type 0
-PlainTo name (Exited code) old new = Accepted name (Exited code) old new
-PlainTo name (Trapped cause pc) old new = Accepted name (Trapped cause pc) old new
-PlainTo name SinkFault old new = Accepted name SinkFault old new
-PlainTo name (TurnsOver count) old new = Accepted name (TurnsOver count) old new
-PlainTo name NotBuilt old new = Accepted name NotBuilt old new
-PlainTo name Absent old new = Stopped name read.Absent old new
-PlainTo name (Refused why) old new = (Stopped name read.TooLong old new × (why ≡ TooLong)) ⊎ IsRefused name why old new
-PlainTo name StoreFault old new = Stopped name read.Failed old new
-PlainTo name NoMemory old new = (Stopped name read.NoMemory old new ⊎ IsStarved name old new) ⊎ Accepted name NoMemory old new
+abbrev pub PlainTo : Request → Status → Outside → Outside → Type 0
+PlainTo r (Exited code) old new = Accepted r (Exited code) old new
+PlainTo r (Trapped cause pc) old new = Accepted r (Trapped cause pc) old new
+PlainTo r (TurnsOver count) old new = Accepted r (TurnsOver count) old new
+PlainTo r SinkFault old new = Accepted r SinkFault old new
+PlainTo r Absent old new = Stopped r read.Absent old new
+PlainTo r (Refused why) old new = (Stopped r read.TooLong old new × (why ≡ TooLong)) ⊎ IsRefused r why old new
+PlainTo r StoreFault old new = Stopped r read.Failed old new ⊎ Accepted r StoreFault old new
+PlainTo r NoMemory old new = (Stopped r read.NoMemory old new ⊎ IsStarved r old new) ⊎ Accepted r NoMemory old new
+PlainTo r Done old new = ⊥
+PlainTo r Usage old new = ⊥
+PlainTo r NotBuilt old new = ⊥
+
+-- what a command does before its status is told
+abbrev pub CommandTo : Command → Request → Status → Outside → Outside → Type 0
+CommandTo Plain r status old new = PlainTo r status old new
+CommandTo Rewrite r status old new = (status ≡ NotBuilt) × Untouched old new
+CommandTo Run r status old new = (status ≡ NotBuilt) × Untouched old new
+CommandTo Trace r status old new = (status ≡ NotBuilt) × Untouched old new
+CommandTo Demo r status old new = (status ≡ NotBuilt) × Untouched old new
+CommandTo Replay r status old new = (status ≡ NotBuilt) × Untouched old new
+CommandTo Plan r status old new = (status ≡ NotBuilt) × Untouched old new
 
 -- the text of a status was put on `err`, whole or up to a put that failed
 abbrev pub Tells : Status → List ℕ → SinkState → SinkState → Type 0
 Tells status name old new = (whole : Bool) × PutsText old (text_of status name) whole new
 
--- the top call, for words that name an image and for others
+-- nothing was done but to tell a status
+abbrev pub TellsAlone : Status → Outside → Outside → Type 0
+TellsAlone status old new = (new.store ≡ old.store) × (new.out ≡ old.out) × Tells status [] old.err new.err
+
+-- the top call, for words that are a command line and for others. There may be no memory to read them
 abbrev pub TopTo : List (List ℕ) → Status → Outside → Outside → Type 0
 TopTo words status old new =
-    MatchOption (image_name words)
-    ((status ≡ NotBuilt) × (new.store ≡ old.store) × (new.out ≡ old.out) × Tells NotBuilt [] old.err new.err)
-    (λ name. (err : SinkState) × PlainTo name status old (record { store = new.store; out = new.out; err = err }) × Tells status name err new.err)
+    ((status ≡ NoMemory) × TellsAlone NoMemory old new)
+    ⊎ MatchOption (command_of words)
+    ((status ≡ Usage) × TellsAlone Usage old new)
+    (λ r. (err : SinkState) × CommandTo r.command r status old (record new { err = err }) × Tells status (image_name r) err new.err)
 
 -- the top call's outcome
 pub record IsOutcome (words : List (List ℕ)) (status : Status) (old new : Outside) : Type 0 where

@@ -1,8 +1,10 @@
 //! How a command ends, with its exit code and its text.
 
-ghost use Rattle.std.specs.Prelude.{◌≡◌, ◌++◌, ◌≤◌, ◌<◌, ◌^◌, length, drop, decimal};
+ghost use Rattle.std.specs.Prelude.{◌≡◌, false, ◌++◌, ◌≤◌, ◌<◌, ◌^◌, length, drop, decimal};
 ghost use Rattle.world_io.specs.Texts.{PutsText};
-ghost use Rattle.spechint_commands.specs.Texts.{code_of, opening, subject, joint, refusal_text, trap_name, closing, detail, digit, hexadecimal, pc_of, turns_of};
+ghost use Rattle.std.specs.Fmt.{digits, digit_glyph};
+ghost use Rattle.trace_text.specs.Line.{trap_name};
+ghost use Rattle.spechint_commands.specs.Texts.{code_of, opening, subject, joint, refusal_text, closing, detail, pc_of, turns_of};
 ghost use Rattle.spechint_commands.specs.Top.{Tells};
 
 use elf_image::Refusal;
@@ -13,12 +15,16 @@ use world_io::{Sink, put_all};
 /// How a command ends.
 #[derive(Clone, Copy, Debug, PartialEq, Eq)]
 pub enum Status {
+    /// The command has done what it should.
+    Done,
     /// The program exited with this code.
     Exited(u8),
     /// The program trapped at this pc.
     Trapped(Trap, u64),
     /// So many instructions were completed, as many as were allowed.
     TurnsOver(u64),
+    /// The words are no command line.
+    Usage,
     /// What was asked for isn't built yet.
     NotBuilt,
     /// The store has no file of the name.
@@ -39,8 +45,10 @@ impl Status {
         ensures { result ≡ code_of self.now }
     {
         match self {
+            Status::Done => 0,
             Status::Exited(code) => *code,
             Status::Absent => 119,
+            Status::Usage => 120,
             Status::Refused(_) => 121,
             Status::StoreFault => 122,
             Status::SinkFault => 123,
@@ -55,8 +63,11 @@ impl Status {
         ensures { result.now ≡ opening self.now }
     {
         match self {
-            Status::Exited(_) | Status::SinkFault => b"",
+            Status::Done | Status::Exited(_) | Status::SinkFault => b"",
             Status::Absent => b"spechint: cannot find ",
+            Status::Usage => {
+                b"spechint: usage: spechint plain|rewrite|run|trace [OPTIONS] IMAGE [ARGS], or spechint demo N"
+            }
             Status::Refused(_) => b"spechint: ",
             Status::StoreFault => b"spechint: read fault",
             Status::NoMemory => b"spechint: out of memory",
@@ -107,7 +118,7 @@ impl Status {
     }
 
     fn detail<'a>(&self, pc: &'a [u8], turns: &'a [u8]) -> &'a [u8]
-        requires pc { pc.now ≡ hexadecimal (pc_of self.now) }
+        requires pc { pc.now ≡ digits 16 false (pc_of self.now) }
         requires turns { turns.now ≡ decimal (turns_of self.now) }
         ensures { result.now ≡ detail self.now }
     {
@@ -123,7 +134,7 @@ impl Status {
         ensures { result.now ≡ closing self.now }
     {
         match self {
-            Status::Exited(_) | Status::SinkFault => b"",
+            Status::Done | Status::Exited(_) | Status::SinkFault => b"",
             Status::TurnsOver(_) => b" instructions\n",
             _ => b"\n",
         }
@@ -170,7 +181,7 @@ fn refusal_text(refusal: Refusal) -> &'static [u8]
 
 fn digit(value: u64) -> u8
     requires { value < 16 }
-    ensures { result ≡ digit value }
+    ensures { result ≡ digit_glyph false value }
 {
     if value < 10 {
         b'0' + value as u8
@@ -183,7 +194,7 @@ fn digit(value: u64) -> u8
 fn write_hexadecimal(number: u64, buffer: &mut [u8]) -> usize
     requires { length buffer.old ≡ 16 }
     ensures within { result ≤ length buffer.new }
-    ensures digits { drop result buffer.new ≡ hexadecimal number }
+    ensures digits { drop result buffer.new ≡ digits 16 false number }
 {
     let mut rest = number;
     let mut at = buffer.len() - 1;

@@ -35,6 +35,40 @@ const PUTS_ITS_NAME: [u32; 8] = [
 const EXITS: [u32; 3] = [0x0070_0513, 0x05D0_0893, 0x0000_0073];
 // One ADDI, and then nothing.
 const ENDS: [u32; 1] = [0x0070_0513];
+// Reads 64 bytes of each of the 40 blocks of the file `data`, and then puts `done`.
+const READS: [u32; 31] = [
+    0x0020_0437,
+    0x0004_0593,
+    0x0000_0613,
+    0x0380_0893,
+    0x0000_0073,
+    0x0005_0493,
+    0x0000_0913,
+    0x0280_0993,
+    0x0000_1A37,
+    0x0004_8513,
+    0x0009_0593,
+    0x0000_0613,
+    0x03E0_0893,
+    0x0000_0073,
+    0x0004_8513,
+    0x0020_15B7,
+    0x0400_0613,
+    0x03F0_0893,
+    0x0000_0073,
+    0x1134_2023,
+    0x0149_0933,
+    0xFFF9_8993,
+    0xFC09_96E3,
+    0x0010_0513,
+    0x0084_0593,
+    0x0050_0613,
+    0x0400_0893,
+    0x0000_0073,
+    0x0000_0513,
+    0x05D0_0893,
+    0x0000_0073,
+];
 // No instruction.
 const ILLEGAL: [u32; 1] = [0];
 
@@ -50,6 +84,47 @@ fn image(alloc: Global, words: &[u32]) -> Result<Vec<u8>, Fail> {
     Ok(bytes)
 }
 
+// One entry of the header table: flags, offset, address, and both sizes.
+fn push_entry(bytes: &mut Vec<u8>, flags: u32, fields: [u64; 4]) -> Result<(), Fail> {
+    let [offset, address, length, size] = fields;
+    bytes.extend_from_slice(&1u32.to_le_bytes())?;
+    bytes.extend_from_slice(&flags.to_le_bytes())?;
+    for field in [offset, address, address, length, size, 0x1000] {
+        bytes.extend_from_slice(&field.to_le_bytes())?;
+    }
+    Ok(())
+}
+
+// An image of a text at 0x100B0, and of 0x3000 bytes at 0x200000 that begin with the names that
+// READS wants.
+fn image_with_data(alloc: Global, words: &[u32]) -> Result<Vec<u8>, Fail> {
+    let size = words.len() as u64 * 4;
+    let mut bytes = FRONT[..64].to_vec(alloc)?;
+    bytes[24] = 0xB0;
+    bytes[56] = 2;
+    push_entry(&mut bytes, 5, [176, 0x1_00B0, size, size])?;
+    push_entry(&mut bytes, 6, [176 + size, 0x20_0000, 16, 0x3000])?;
+    for word in words {
+        bytes.extend_from_slice(&word.to_le_bytes())?;
+    }
+    bytes.extend_from_slice(b"data\0\0\0\0done\n\0\0\0")?;
+    Ok(bytes)
+}
+
+// A program that makes the call of this number with one more register set, and exits with the answer.
+fn call(alloc: Global, number: u32, set: u32) -> Result<Vec<u8>, Fail> {
+    image(
+        alloc,
+        &[
+            number << 20 | 0x893,
+            set,
+            0x0000_0073,
+            0x05D0_0893,
+            0x0000_0073,
+        ],
+    )
+}
+
 #[derive(Drop)]
 struct Told {
     status: Status,
@@ -57,25 +132,38 @@ struct Told {
     err: Vec<u8>,
 }
 
-// What `plain w1` comes to over a store with this file, whose calls in `fails` fail, and an output
-// whose puts in `stops` fail.
-fn plain(alloc: Global, file: &[u8], fails: &[u64], stops: &[u64]) -> Result<Told, Fail> {
+// What these words come to over a store with the files `w1` and `data`, whose calls in `fails` fail,
+// and an output whose puts in `stops` fail. A file of 4,096 bytes isn't put into the store.
+fn command(
+    alloc: Global,
+    words: &[&str],
+    file: &[u8],
+    data: &[u8],
+    fails: &[u64],
+    stops: &[u64],
+) -> Result<Told, Fail> {
     let mut store = MemStore::new(alloc, fails.to_vec(alloc)?);
-    if file.len() < 4096 {
+    if file.len() != 4096 {
         store.add(Name::new(b"w1").ok_or("name")?, file)?;
     }
+    store.add(Name::new(b"data").ok_or("name")?, data)?;
     let mut out = MemSink::new(alloc, 100, stops.to_vec(alloc)?, Vec::new(alloc))?;
-    let mut err = MemSink::new(alloc, 100, Vec::new(alloc), Vec::new(alloc))?;
-    let words = vec![in alloc;
-        String::from_str(alloc, "plain")?,
-        String::from_str(alloc, "w1")?,
-    ]?;
-    let status = spechint(alloc, &words, &mut store, &mut out, &mut err);
+    let mut err = MemSink::new(alloc, 200, Vec::new(alloc), Vec::new(alloc))?;
+    let mut given = Vec::new(alloc);
+    for word in words {
+        given.push(String::from_str(alloc, word)?)?;
+    }
+    let status = spechint(alloc, &given, &mut store, &mut out, &mut err);
     Ok(Told {
         status,
         out: out.bytes().to_vec(alloc)?,
         err: err.bytes().to_vec(alloc)?,
     })
+}
+
+// What `plain w1` comes to.
+fn plain(alloc: Global, file: &[u8], fails: &[u64], stops: &[u64]) -> Result<Told, Fail> {
+    command(alloc, &["plain", "w1"], file, b"", fails, stops)
 }
 
 #[test]
@@ -136,7 +224,9 @@ fn faults_come_where_they_are_listed(rt: HostRuntime) -> Result<(), Fail> {
 fn each_status_has_its_code(rt: HostRuntime) -> Result<(), Fail> {
     let rows = [
         (Status::Exited(255), 255u8),
+        (Status::Done, 0),
         (Status::Absent, 119),
+        (Status::Usage, 120),
         (Status::Refused(Refusal::Magic), 121),
         (Status::StoreFault, 122),
         (Status::SinkFault, 123),
@@ -148,5 +238,116 @@ fn each_status_has_its_code(rt: HostRuntime) -> Result<(), Fail> {
     for (status, code) in &rows {
         assert_eq!(rt; status.code(), *code);
     }
+    Ok(())
+}
+
+#[test]
+fn words_that_are_no_command_line_are_usage(rt: HostRuntime) -> Result<(), Fail> {
+    let alloc = rt.alloc();
+    let none = [0; 4096];
+    let told = command(alloc, &["plain", "--report", "w1"], &none, b"", &[], &[])?;
+    assert_eq!(rt; told.status, Status::Usage);
+    assert_eq!(rt;
+        told.err.as_slice(),
+        b"spechint: usage: spechint plain|rewrite|run|trace [OPTIONS] IMAGE [ARGS], or spechint demo N\n".as_slice()
+    );
+    assert_eq!(rt;
+        command(alloc, &[], &none, b"", &[], &[])?.status,
+        Status::Usage
+    );
+    assert_eq!(rt;
+        command(
+            alloc,
+            &["plain", "--turns", "0", "w1"],
+            &none,
+            b"",
+            &[],
+            &[]
+        )?
+        .status,
+        Status::Usage
+    );
+    assert_eq!(rt;
+        command(alloc, &["trace", "w1"], &none, b"", &[], &[])?.status,
+        Status::NotBuilt
+    );
+    Ok(())
+}
+
+#[test]
+fn each_call_has_its_answer(rt: HostRuntime) -> Result<(), Fail> {
+    let alloc = rt.alloc();
+    let rows = [
+        (57, 0x0090_0513, 247u8),
+        (62, 0x0010_0513, 227),
+        (63, 0x0000_0513, 247),
+        (56, 0x0000_0593, 242),
+        (56, 0x0010_0613, 234),
+        (214, 0x0000_0513, 144),
+        (1, 0x0000_0513, 218),
+    ];
+    for (number, set, code) in rows {
+        let told = plain(alloc, &call(alloc, number, set)?, &[], &[])?;
+        assert_eq!(rt; told.status, Status::Exited(code));
+    }
+    Ok(())
+}
+
+#[test]
+fn a_program_reads_its_file(rt: HostRuntime) -> Result<(), Fail> {
+    let alloc = rt.alloc();
+    let file = image_with_data(alloc, &READS)?;
+    let data = vec![in alloc; 7u8; 163_840]?;
+    let told = command(alloc, &["plain", "w1"], &file, &data, &[], &[])?;
+    assert_eq!(rt; told.status, Status::Exited(0));
+    assert_eq!(rt; told.out.as_slice(), b"done\n".as_slice());
+    let told = command(
+        alloc,
+        &["plain", "--turns", "577", "w1"],
+        &file,
+        &data,
+        &[],
+        &[],
+    )?;
+    assert_eq!(rt; told.status, Status::Exited(0));
+    let told = command(
+        alloc,
+        &["plain", "w1", "--turns=576"],
+        &file,
+        &data,
+        &[],
+        &[],
+    )?;
+    assert_eq!(rt; told.status, Status::TurnsOver(576));
+    assert_eq!(rt;
+        told.err.as_slice(),
+        b"spechint: turns over after 576 instructions\n".as_slice()
+    );
+    assert_eq!(rt;
+        command(alloc, &["plain", "w1"], &file, &data, &[3], &[])?.status,
+        Status::StoreFault
+    );
+    assert_eq!(rt;
+        command(alloc, &["plain", "w1"], &file, &data, &[4], &[])?.status,
+        Status::StoreFault
+    );
+    Ok(())
+}
+
+#[test]
+fn the_layout_moves_the_end_of_the_range(rt: HostRuntime) -> Result<(), Fail> {
+    let alloc = rt.alloc();
+    // lui x5,0x10000; lbu x10,0(x5); addi x17,x0,93; ecall
+    let file = image(alloc, &[0x1000_02B7, 0x0002_C503, 0x05D0_0893, 0x0000_0073])?;
+    assert_eq!(rt; plain(alloc, &file, &[], &[])?.status, Status::Exited(0));
+    let told = command(
+        alloc,
+        &["plain", "--layout", "1", "w1"],
+        &file,
+        b"",
+        &[],
+        &[],
+    )?;
+    assert_eq!(rt; told.status, Status::Trapped(Trap::LoadOut, 0x1_007C));
     Ok(())
 }

@@ -1,4 +1,4 @@
-use Rattle.std.proofs.Common.{[], ◌∷◌, IsTrue, ap, sym, ◌∙◌, subst, lit≤}
+use Rattle.std.proofs.Common.{map, string_bytes, IsTrue, refl, ap, sym, ◌∙◌, subst, lit≤}
 use Rattle.spec_base.specs.Layout.{is_lawful}
 use Rattle.spec_base.specs.declared.machine.View.TheVariants.{Plain}
 use Rattle.rv_model.specs.Registers.{with_reg, all_zero}
@@ -10,26 +10,31 @@ use Rattle.program_loader.proofs.loading.load.Goals as goal
 
 pub write_start-requires-clause-lawful : goal.write_start-requires-clause-lawful
 write_start-requires-clause-lawful c =
-    subst (λ l. IsTrue (is_lawful l)) (sym (ap (λ s. s.layout) c.in_ok-mem.ensures)) (c.requires.lawful 1 (lit≤ tt) (lit≤ tt))
+    subst (λ l. IsTrue (is_lawful l)) (sym (ap (λ s. s.layout) c.in_ok-mem.ensures)) (c.requires.image.lawful 1 (lit≤ tt) (lit≤ tt))
 
 pub write_start-requires-clause-version : goal.write_start-requires-clause-version
 write_start-requires-clause-version c = ap (λ s. s.layout.version) c.in_ok-mem.ensures
 
 pub returns : goal.returns
 returns c =
-    let arguments = c.args.name.now ∷ [] in
-    let layout = ap (λ s. stack_start s.layout (c.args.name.now ∷ [])) c.in_ok-mem.ensures in
+    let arguments = map string_bytes c.args.arguments.now in
+    let layout = ap (λ s. stack_start s.layout arguments) c.in_ok-mem.ensures in
     let stack = c.in_ok-stack.ensures.0 ∙ layout in
-    let space = c.in_ok-stack.ensures.1 ∙ ap (λ s. start_space s (c.args.name.now ∷ [])) c.in_ok-mem.ensures in
+    let space = c.in_ok-stack.ensures.1 ∙ ap (λ s. start_space s arguments) c.in_ok-mem.ensures in
     let core = c.set_reg.ensures
     ∙ (ap (λ (k : Core). record k { registers = with_reg k.registers c.from_low_bits.result c.in_ok-stack.stack }) c.new-hart.ensures
     ∙ (λ i. record { registers = with_reg all_zero (c.from_low_bits.ensures i) (stack i); pc = c.args.image.now.entry; view = Plain; site = 0 })) in
     record {
-      view = ap (λ k. k.view) core;
-      registers = ap (λ k. k.registers) core;
-      pc = ap (λ k. k.pc) core;
-      memory = ap (λ s. s.program) space;
-      files = c.new-files.ensures ∙ ap (λ most. start_of c.args.image.now.break_start most) c.image_limit.ensures;
-      layout = ap (λ s. s.layout) space;
-      words = ap (λ s. s.text) space;
+      shows = record {
+        view = ap (λ k. k.view) core;
+        registers = sym (ap (λ k. k.registers) core);
+        pc = sym (ap (λ k. k.pc) core);
+        memory = sym (ap (λ s. s.program) space);
+        files = sym (c.new-files.ensures ∙ ap (λ most. start_of c.args.image.now.break_start most) c.image_limit.ensures);
+        exited = refl;
+        layout = ap (λ s. s.layout) space;
+        words = ap (λ s. s.text) space;
+      };
+      out = refl;
+      err = refl;
     }

@@ -1,7 +1,0 @@
-use Rattle.std.proofs.Common.{◌≡◌}
-use Rattle.rv_model.specs.Memory.{bytes_at}
-use Rattle.file_calls.specs.Data.{memory_in}
-use Rattle.plain_runner.proofs.calls.bytes_from.Given as goal
-
-abbrev pub invariant-loop-i : goal.invariant-loop-i
-invariant-loop-i g l = l.bytes.items ≡ bytes_at (memory_in (g.B.Bytes.byte_at l.mem)) l.address l.i

@@ -1,0 +1,43 @@
+//! The arguments and the answer of a call.
+
+ghost use Rattle.std.specs.Prelude.{◌≡◌, ◌<◌};
+ghost use Rattle.spec_base.specs.Word.{word_of_int};
+ghost use Rattle.rv_model.specs.Registers.{reg};
+ghost use Rattle.hart_step.specs.Core.{core_of};
+ghost use Rattle.plain_runner.specs.Outcomes.{answered_core};
+
+use file_calls::Files;
+use hart_step::Hart;
+use spec_base::Reg;
+
+/// The argument in a register.
+pub fn argument(hart: &Hart, number: u32) -> u64
+    requires { number < 32 }
+    ensures { result ≡ reg (core_of hart.now).registers number }
+{
+    hart.reg(Reg::from_low_bits(number))
+}
+
+/// Answers a call.
+pub fn answer(hart: &mut Hart, value: u64)
+    ensures { core_of hart.new ≡ answered_core (core_of hart.old) value }
+{
+    hart.answer(Reg::from_low_bits(10), value);
+}
+
+/// The 64 bits of an answer.
+fn word_of(value: &i64) -> u64
+    ensures { result ≡ word_of_int value.now }
+{
+    let value = *value;
+    value.cast_unsigned()
+}
+
+/// Sets the descriptors, and answers a call.
+pub fn settle(hart: &mut Hart, files: &mut Files, after: &Files, value: &i64)
+    ensures files { files.new ≡ after.now }
+    ensures hart { core_of hart.new ≡ answered_core (core_of hart.old) (word_of_int value.now) }
+{
+    *files = *after;
+    answer(hart, word_of(value));
+}

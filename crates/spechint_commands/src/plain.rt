@@ -1,0 +1,104 @@
+//! The command `plain`.
+
+ghost use Rattle.std.specs.Prelude.{◌≡◌, ℕ, ◌≤◌, ◌<◌, length, map, string_bytes};
+ghost use Rattle.elf_image.specs.Image.{IsImage};
+ghost use Rattle.plain_runner.specs.Runs.{Outside};
+ghost use Rattle.command_words.specs.Limits.{IsWithinLimits};
+ghost use Rattle.spechint_commands.specs.Top.{PlainTo, RunsImage, EndingStatus, image_name};
+
+use crate::status::Status;
+use command_words::Request;
+use elf_image::{Image, Refusal, read_as};
+use plain_runner::{Ending, run};
+use program_loader::load;
+use spec_base::Name;
+use std::alloc::Global;
+use whole_file::{ReadFault, read_whole};
+use world_io::{Sink, Store};
+
+/// The word for the image.
+pub fn image_word<'a>(request: &'a Request) -> &'a [u8]
+    ensures { result.now ≡ image_name request.now }
+{
+    match request.arguments.as_slice() {
+        [image, ..] => image.as_bytes(),
+        [] => b"",
+    }
+}
+
+fn status_of(ending: Ending) -> Status
+    ensures { EndingStatus ending result }
+{
+    match ending {
+        Ending::Exited(code) => Status::Exited(code),
+        Ending::Trapped(cause, pc) => Status::Trapped(cause, pc),
+        Ending::TurnsOver(count) => Status::TurnsOver(count),
+        Ending::StoreFault => Status::StoreFault,
+        Ending::SinkFault => Status::SinkFault,
+        Ending::NoMemory => Status::NoMemory,
+    }
+}
+
+// Loads an accepted image and runs its program.
+fn run_image<D: Store, O: Sink, E: Sink>(
+    alloc: Global,
+    bytes: &[u8],
+    image: &Image,
+    request: &Request,
+    store: &mut D,
+    out: &mut O,
+    err: &mut E,
+) -> Status
+    requires image { IsImage bytes.now request.now.options.layout image.now }
+    requires request { IsWithinLimits request.now }
+    ensures { RunsImage request.now bytes.now image.now result
+        (record { store = D.state store.old; out = O.state out.old; err = E.state err.old })
+        (record { store = D.state store.new; out = O.state out.new; err = E.state err.new }) }
+{
+    let arguments = request.arguments.as_slice();
+    let Ok(mut process) = load(alloc, bytes, image, request.options.layout, arguments) else {
+        return Status::NoMemory;
+    };
+    let ending = run(
+        alloc,
+        &mut process.hart,
+        &mut process.mem,
+        &mut process.files,
+        request.options.turns,
+        store,
+        out,
+        err,
+    );
+    status_of(ending)
+}
+
+/// Reads an image and runs its program by itself.
+pub fn plain<D: Store, O: Sink, E: Sink>(
+    alloc: Global,
+    request: &Request,
+    store: &mut D,
+    out: &mut O,
+    err: &mut E,
+) -> Status
+    requires { IsWithinLimits request.now }
+    ensures { PlainTo request.now result
+        (record { store = D.state store.old; out = O.state out.old; err = E.state err.old })
+        (record { store = D.state store.new; out = O.state out.new; err = E.state err.new }) }
+{
+    let Some(name) = Name::new(image_word(request)) else {
+        unreachable!()
+    };
+    let bytes = match read_whole(alloc, &name, store) {
+        Ok(bytes) => bytes,
+        Err(ReadFault::Absent) => return Status::Absent,
+        Err(ReadFault::TooLong) => return Status::Refused(Refusal::TooLong),
+        Err(ReadFault::Failed) => return Status::StoreFault,
+        Err(ReadFault::NoMemory) => return Status::NoMemory,
+    };
+    let image = match read_as(alloc, &bytes, request.options.layout) {
+        Ok(image) => image,
+        Err(elf_image::ReadFault::Refused(refusal)) => return Status::Refused(refusal),
+        Err(elf_image::ReadFault::NoMemory) => return Status::NoMemory,
+    };
+    run_image(alloc, &bytes, &image, request, store, out, err)
+}
