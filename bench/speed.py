@@ -2,7 +2,8 @@
 
 Use: speed.py NAME COUNT THING COMMAND..
 The count is of the things that the command does. Two speeds are told: by the clock, and by the
-processor's time of the command alone, which other work on the machine disturbs less.
+processor's time of the command alone, which other work on the machine disturbs less. The most memory
+that the command held is told too.
 """
 import resource
 import subprocess
@@ -31,5 +32,6 @@ if status != 0:
 
 print(
     f"{name}: {count:,} {thing}; by the clock {clock:.3f} s, {speed(clock)};"
-    f" by the processor {processor:.3f} s, {speed(processor)}"
+    f" by the processor {processor:.3f} s, {speed(processor)};"
+    f" at most {resource.getrusage(resource.RUSAGE_CHILDREN).ru_maxrss:,} KiB resident"
 )

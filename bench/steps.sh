@@ -1,6 +1,6 @@
 #!/bin/sh
-# Tells how many instructions a second `spechint plain` runs, of three loops: one that counts, one
-# that stores and one that loads. Each goes round N times (default 5000000).
+# Tells how many instructions a second `spechint plain` runs, of four loops: one that counts, one
+# that stores, one that loads, and one that walks through 8 MiB of memory. Each goes round N times (default 5000000).
 # Use: bench/steps.sh [N]
 here=$(cd "$(dirname "$0")/.." && pwd)
 rounds=${1:-5000000}
@@ -14,33 +14,7 @@ images=$(mktemp -d) || exit 1
 trap 'rm -rf "$images"' EXIT
 trap 'exit 1' HUP INT TERM
 
-# The bytes of a number, lowest first: little NUMBER COUNT.
-little() {
-    rest=$1
-    count=$2
-    while [ "$count" -gt 0 ]; do
-        # shellcheck disable=SC2059
-        printf "\\$(printf %03o $((rest % 256)))"
-        rest=$((rest / 256))
-        count=$((count - 1))
-    done
-}
-
-# An image of one segment, which is its text of these words: image WORD..
-image() {
-    size=$(($# * 4))
-    printf '\177ELF\002\001\001\000\000\000\000\000\000\000\000\000' # ident
-    little 2 2 && little 243 2 && little 1 4                         # type, machine, version
-    little 65656 8 && little 64 8 && little 0 8                      # entry, phoff, shoff
-    little 0 4 && little 64 2 && little 56 2 && little 1 2           # flags, ehsize, phentsize, phnum
-    little 0 6                                                       # no sections
-    little 1 4 && little 5 4 && little 120 8                         # type, flags, offset
-    little 65656 8 && little 65656 8                                 # addresses
-    little "$size" 8 && little "$size" 8 && little 4096 8            # sizes, alignment
-    for word in "$@"; do
-        little "$((word))" 4
-    done
-}
+. "$here/bench/images.sh"
 
 # The count of rounds into x6, and then rounds of these words: it ends each by taking one from x6 and
 # going back, and at last exits with 0: loop WORD..
@@ -70,10 +44,12 @@ measure() {
         "$here/spechint" plain "$images/$1" || exit 1
 }
 
-# ADDI x5,x5,1; SD x5,-8(x2); LD x5,-8(x2)
+# ADDI x5,x5,1; SD x5,-8(x2); LD x5,-8(x2);
+# LUI x12,0x1000; ADD x11,x9,x12; LD x8,0(x11); ADDI x9,x9,64; LUI x13,0x800; ADDI x13,x13,-8; AND x9,x9,x13
 loop 0x00128293 >"$images/count"
 loop 0xFE513C23 >"$images/store"
 loop 0xFF813283 >"$images/load"
+loop 0x01000637 0x00C485B3 0x0005B403 0x04048493 0x008006B7 0xFF868693 0x00D4F4B3 >"$images/walk"
 
 # The first run builds the program where it isn't built.
 first=$rounds
@@ -85,3 +61,4 @@ rounds=$first
 measure count 3
 measure store 3
 measure load 3
+measure walk 9

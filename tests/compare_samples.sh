@@ -1,0 +1,48 @@
+#!/bin/sh
+# Runs each sample under `spechint plain` and as a program of this machine, and compares what they
+# print and how they end. Skips where the cross compiler or a compiler of this machine is missing.
+here=$(cd "$(dirname "$0")/.." && pwd)
+cd "$here/samples" || exit 1
+told=$(./build.sh) || exit 1
+if [ -n "$told" ]; then
+    echo "compare_samples: $told"
+    exit 0
+fi
+if ! command -v cc > /dev/null; then
+    echo "compare_samples: skipped: no cc"
+    exit 0
+fi
+work=$(mktemp -d) || exit 1
+trap 'rm -rf "$work"' EXIT
+
+# Files of no bytes, of a block, of more than a piece, and one that isn't there.
+: > "$work/empty"
+head -c 4096 /dev/zero | tr '\0' 'a' > "$work/block"
+seq 1 30000 > "$work/numbers"
+cp search.c "$work/source"
+
+differ=0
+compare() {
+    name=$1
+    shift
+    (cd "$work" && "./$name" "$@" > own.out 2> own.err; echo $? > own.code)
+    (cd "$work" && "$here/spechint" plain "$here/samples/out/$name" "$@" > plain.out 2> plain.err; echo $? > plain.code)
+    for part in out err code; do
+        if ! cmp -s "$work/own.$part" "$work/plain.$part"; then
+            echo "compare_samples: $name $*: $part differs"
+            differ=1
+        fi
+    done
+}
+
+for name in search count sums; do
+    cc -O2 -o "$work/$name" "$name.c" || exit 1
+done
+compare search 99 numbers source empty
+compare search none numbers block
+compare search int source absent
+compare count empty block numbers source
+compare count absent source
+compare sums empty block numbers source
+[ $differ = 0 ] && echo "compare_samples: all agree"
+exit $differ
