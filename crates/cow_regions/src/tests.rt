@@ -1,0 +1,197 @@
+//! Words of the listings by llvm-mc (Debian LLVM 14.0.6, `llvm-mc -triple=riscv64 -mattr=+m`), but
+//! for the gate instructions.
+
+use crate::{emit_access, emit_clear};
+use rv_encode::CodeBuf;
+use spec_base::{Layout, NoMemory, Version};
+use std::alloc::Global;
+use std::test::Fail;
+
+/// RESTART's words 1 to 11.
+const CLEAR: [u32; 11] = [
+    0x4400_0E37,
+    0x000E_3E83,
+    0x008E_0F13,
+    0x002E_9E93,
+    0x01EE_8EB3,
+    0x01DF_7A63,
+    0x000F_6F83,
+    0x000F_A023,
+    0x004F_0F13,
+    0xFF1F_F06F,
+    0x000E_3023,
+];
+
+/// STORE8 for a text from 0x10078 to 0x10084.
+const STORE8: [u32; 16] = [
+    0xFDF0_3823,
+    0xFFE0_3823,
+    0xFD80_3F83,
+    0x007F_FF13,
+    0x280F_1663,
+    0x0000_1F37,
+    0x29EF_E263,
+    0x1000_0F37,
+    0x27EF_FE63,
+    0x0001_0F37,
+    0x074F_0F13,
+    0x01EF_E863,
+    0x0001_0F37,
+    0x084F_0F13,
+    0x27EF_E263,
+    0x0800_006F,
+];
+
+/// LOAD8 for a text from 0x3FE8_0004 to 0x3FE8_0804, which starts at 4 modulo 8.
+const LOAD8: [u32; 16] = [
+    0xFDF0_3823,
+    0xFFE0_3823,
+    0xFD80_3F83,
+    0x007F_FF13,
+    0x380F_1663,
+    0x0000_1F37,
+    0x39EF_E263,
+    0x4000_0F37,
+    0x37EF_FE63,
+    0x3FE8_0F37,
+    0x000F_0F13,
+    0x01EF_E863,
+    0x3FE8_1F37,
+    0x804F_0F13,
+    0x37EF_E263,
+    0x1440_006F,
+];
+
+/// JUMP for the same text.
+const JUMP: [u32; 16] = [
+    0xFFE0_3823,
+    0xFD80_3F83,
+    0xFFEF_FF93,
+    0x002F_FF13,
+    0x240F_1663,
+    0x3FE8_0F37,
+    0x004F_0F13,
+    0x41EF_8FB3,
+    0x0000_1F37,
+    0x800F_0F13,
+    0x23EF_FA63,
+    0x004F_9F93,
+    0x4000_0F37,
+    0x01EF_8FB3,
+    0xFF00_3F03,
+    0x000F_8067,
+];
+
+/// LTAIL and STAIL for 4,095 regions.
+const TAILS: [u32; 61] = [
+    0x008F_DF13,
+    0x002F_1F13,
+    0x4300_0FB7,
+    0x01FF_0F33,
+    0x000F_6F03,
+    0xFD80_3F83,
+    0x000F_0E63,
+    0x008F_1F13,
+    0x0FFF_FF93,
+    0x01EF_8FB3,
+    0x4500_0F37,
+    0x01EF_8FB3,
+    0xF00F_8F93,
+    0xFD00_3F03,
+    0x000F_0067,
+    0x008F_DF13,
+    0x002F_1F13,
+    0x4300_0FB7,
+    0x01FF_0F33,
+    0x000F_6F83,
+    0x080F_9063,
+    0xFDE0_3423,
+    0xFFD0_3423,
+    0xFFC0_3023,
+    0x4400_0E37,
+    0x000E_3E83,
+    0x0000_1FB7,
+    0xFFFF_8F93,
+    0x1BFE_F863,
+    0x008E_9F93,
+    0x4500_0F37,
+    0x01EF_8FB3,
+    0xFD80_3F03,
+    0xF00F_7F13,
+    0x100F_8E93,
+    0x000F_3E03,
+    0x01CF_B023,
+    0x008F_0F13,
+    0x008F_8F93,
+    0xFFDF_E8E3,
+    0x4400_0E37,
+    0x000E_3E83,
+    0x002E_9F13,
+    0x01CF_0F33,
+    0xFC80_3F83,
+    0x01FF_2423,
+    0x001E_8E93,
+    0x01DE_3023,
+    0x01DF_A023,
+    0x000E_8F93,
+    0xFE80_3E83,
+    0xFE00_3E03,
+    0x008F_9F13,
+    0x4500_0FB7,
+    0x01FF_0F33,
+    0xFD80_3F83,
+    0x0FFF_FF93,
+    0x01EF_8FB3,
+    0xF00F_8F93,
+    0xFD00_3F03,
+    0x000F_0067,
+];
+
+/// The words of closed code.
+fn words(buf: CodeBuf) -> Result<Vec<u32>, Fail> {
+    Ok(buf.close().map_err(|_| "the code closes")?)
+}
+
+/// The code from LOAD1 to STAIL.
+fn access(alloc: Global, layout: &Layout) -> Result<CodeBuf, NoMemory> {
+    let mut buf = CodeBuf::new(alloc);
+    emit_access(&mut buf, layout)?;
+    Ok(buf)
+}
+
+#[test]
+fn clears(rt: HostRuntime) -> Result<(), Fail> {
+    let mut buf = CodeBuf::new(rt.alloc());
+    emit_clear(&mut buf)?;
+    assert_eq!(rt; words(buf)?.as_slice(), CLEAR.as_slice());
+    Ok(())
+}
+
+#[test]
+fn finds_places_in_a_small_range(rt: HostRuntime) -> Result<(), Fail> {
+    let layout = Layout {
+        text_start: 0x10078,
+        text_end: 0x10084,
+        regions: 4096,
+        version: Version::One,
+    };
+    let words = words(access(rt.alloc(), &layout)?)?;
+    assert_eq!(rt; words.len(), 205);
+    assert_eq!(rt; words.get(112..128), Some(STORE8.as_slice()));
+    Ok(())
+}
+
+#[test]
+fn finds_places_in_a_large_range(rt: HostRuntime) -> Result<(), Fail> {
+    let layout = Layout {
+        text_start: 0x3FE8_0004,
+        text_end: 0x3FE8_0804,
+        regions: 4095,
+        version: Version::Two,
+    };
+    let words = words(access(rt.alloc(), &layout)?)?;
+    assert_eq!(rt; words.get(48..64), Some(LOAD8.as_slice()));
+    assert_eq!(rt; words.get(128..144), Some(JUMP.as_slice()));
+    assert_eq!(rt; words.get(144..), Some(TAILS.as_slice()));
+    Ok(())
+}

@@ -1,0 +1,87 @@
+//! Words of the listings by llvm-mc (Debian LLVM 14.0.6, `llvm-mc -triple=riscv64 -mattr=+m`), but
+//! for the gate instructions.
+
+use crate::stub;
+use std::test::Fail;
+
+/// The stub, word by word.
+const STUB: [u32; 71] = [
+    0xFFF0_3C23,
+    0x0000_3F8B,
+    0x040F_8C63,
+    0xFFE0_3823,
+    0xFFD0_3423,
+    0xFDF0_3023,
+    0x4200_0F37,
+    0x000F_3E83,
+    0x008F_3F83,
+    0x05FE_8463,
+    0x03FE_FF93,
+    0x004F_9F93,
+    0x01EF_8FB3,
+    0x100F_BE83,
+    0xFC00_3F03,
+    0x03EE_9863,
+    0x108F_BE83,
+    0x02CE_9463,
+    0x4200_0F37,
+    0x000F_3E83,
+    0x001E_8E93,
+    0x01DF_3023,
+    0xFE80_3E83,
+    0xFF00_3F03,
+    0xFF80_3F83,
+    0x0000_600B,
+    0x0000_100B,
+    0x0000_400B,
+    0x4200_0F37,
+    0x000F_3023,
+    0x000F_3423,
+    0x4200_1FB7,
+    0x0000_2F0B,
+    0x01EF_B023,
+    0xFF00_3F03,
+    0xFE80_3E83,
+    0x001F_B423,
+    0x002F_B823,
+    0x003F_BC23,
+    0x024F_B023,
+    0x025F_B423,
+    0x026F_B823,
+    0x027F_BC23,
+    0x048F_B023,
+    0x049F_B423,
+    0x04AF_B823,
+    0x04BF_BC23,
+    0x06CF_B023,
+    0x06DF_B423,
+    0x06EF_B823,
+    0x06FF_BC23,
+    0x090F_B023,
+    0x091F_B423,
+    0x092F_B823,
+    0x093F_BC23,
+    0x0B4F_B023,
+    0x0B5F_B423,
+    0x0B6F_B823,
+    0x0B7F_BC23,
+    0x0D8F_B023,
+    0x0D9F_B423,
+    0x0DAF_B823,
+    0x0DBF_BC23,
+    0x0FCF_B023,
+    0x0FDF_B423,
+    0x0FEF_B823,
+    0xFF80_3F03,
+    0x0FEF_BC23,
+    0xFF00_3F03,
+    0x0000_500B,
+    0xF49F_F06F,
+];
+
+#[test]
+fn is_the_listing(rt: HostRuntime) -> Result<(), Fail> {
+    let words = stub(rt.alloc())?;
+    assert_eq!(rt; words.as_slice(), STUB.as_slice());
+    Ok(())
+}
