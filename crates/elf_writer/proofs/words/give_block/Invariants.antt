@@ -1,0 +1,10 @@
+use Rattle.std.proofs.Common.{◌≡◌, drop}
+use Rattle.elf_writer.specs.RewrittenFile.{word_bytes}
+use Rattle.elf_writer.proofs.StreamLemmas.{Toward}
+use Rattle.elf_writer.proofs.words.give_block.Given as goal
+
+abbrev pub invariant-loop-word : goal.invariant-loop-word
+invariant-loop-word g l = record {
+  toward : Toward (g.S.Staging.size l.fn.staging) (g.S.Staging.held l.fn.staging) (g.O.Sink.state l.fn.sink) (word_bytes l.words) (word_bytes (drop l.word-index l.words)) (g.S.Staging.held l.staging) (g.O.Sink.state l.sink);
+  size : g.S.Staging.size l.staging ≡ g.S.Staging.size l.fn.staging;
+}
