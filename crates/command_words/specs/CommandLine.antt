@@ -13,10 +13,12 @@ use Rattle.command_words.specs.Settings.{command_named, setting_named, has_value
 
 -- ---- words
 
+-- whether a word's first byte is `-`
 abbrev pub begins_with_dash : List ℕ → Bool
 begins_with_dash [] = false
 begins_with_dash (byte ∷ bytes) = byte == 45
 
+-- whether a byte is `=`
 abbrev pub is_equals : ℕ → Bool
 is_equals byte = byte == 61
 
@@ -56,6 +58,7 @@ read_at Open command reading word = read_open command reading word
 read_at (Awaits setting) command reading word = if begins_with_dash word then None else with_setting reading word setting
 read_at Closed command reading word = Some (with_argument reading word)
 
+-- the next word of a command line
 unfoldable pub read_word : Command → Reading → List ℕ → Option Reading
 read_word command reading word = read_at reading.stage command reading word
 

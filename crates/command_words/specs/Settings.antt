@@ -13,6 +13,7 @@ use Rattle.command_words.specs.Values.{number_in, version_in, pattern_in, Patter
 
 -- ---- tables
 
+-- the command with this name
 unfoldable pub command_named : List ℕ → Option Command
 command_named word =
     if bytes_eq word (codes "plain") then Some commands.Plain
@@ -34,6 +35,7 @@ settings commands.Demo = []
 settings commands.Replay = Blocks ∷ Depth ∷ Every ∷ []
 settings commands.Plan = Blocks ∷ []
 
+-- an option's name
 abbrev pub setting_name : Setting → List ℕ
 setting_name Turns = codes "--turns"
 setting_name Regions = codes "--regions"

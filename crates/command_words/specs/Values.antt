@@ -9,6 +9,7 @@ use Rattle.spec_base.specs.declared.note.Move.{Move}
 use Rattle.spec_base.specs.declared.note.Move.TheVariants as moves
 use Rattle.command_words.specs.declared.pattern.Items.{Items}
 
+-- the next step, where the one before gave a value
 infixl 10 ◌>>=◌
 abbrev pub ◌>>=◌ : {A B : Type 0} → Option A → (A → Option B) → Option B
 o >>= f = option_and_then f o
@@ -36,6 +37,7 @@ number_in least most word =
     then Some (digits_value 10 word)
     else None
 
+-- 1 is the first version, and 2 the second
 abbrev pub version_with : ℕ → Version
 version_with number = if number == 1 then One else Two
 
@@ -78,6 +80,7 @@ unfoldable pub read_byte : Items → ℕ → Option Items
 read_byte items byte =
     if is_ascii_digit byte then with_digit items (byte - 48) else move_of byte >>= with_move items
 
+-- a pattern that isn't too long
 abbrev pub at_most_65_536 : Pattern → Option Pattern
 at_most_65_536 items = if nat_le (length items) 65_536 then Some items else None
 

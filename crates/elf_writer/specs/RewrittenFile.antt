@@ -1,7 +1,7 @@
 -- The rewritten file (this project's own): an ELF file with the original's segments, in which the text is patched, and the code of the shadow beside them.
 use Rattle.std.specs.Prelude.{◌≡◌, ℕ, ◌+◌, ◌-◌, ◌*◌, ◌≤◌, Bool, true, false, ◌&&◌, nat_le, List, [], ◌∷◌, ◌++◌, length, map, take, drop, All, IsTrue}
 use Rattle.std.specs.List.{flat_map}
-use Rattle.spec_base.specs.Layout.{image_limit, is_lawful}
+use Rattle.spec_base.specs.Layout.{image_limit, is_lawful, helper_words, stub_words}
 use Rattle.spec_base.specs.declared.layout.Layout.{Layout}
 use Rattle.elf_image.specs.declared.segments.Segment.{Segment}
 use Rattle.elf_image.specs.declared.image.Image.{Image}
@@ -86,5 +86,5 @@ pub record IsRewritable (bytes : List ℕ) (image : Image) (l : Layout) : Type 0
 pub record IsCodeOf (l : Layout) (code : Code) : Type 0 where
   pub text : length code.text ≡ text_count l
   pub shadow : length code.shadow ≡ 16 * (text_count l + 1)
-  pub helpers : length code.helpers ≡ 282
-  pub stub : length code.stub ≡ 71
+  pub helpers : length code.helpers ≡ helper_words
+  pub stub : length code.stub ≡ stub_words
