@@ -1,16 +1,11 @@
 -- Where the parts of the rewritten file stand in it.
-use Rattle.std.proofs.Common.{◌≡◌, ℕ, ◌+◌, ◌-◌, ◌*◌, ◌<◌, ◌≤◌, Bool, true, false, List, [], ◌∷◌, ◌++◌, length, map, take, drop, replicate, arith, sym, ap, subst, refl, ◌∙◌, append_assoc, length-append}
-use Rattle.std.specs.Prelude.{◌==◌, if◌then◌else◌}
-use Rattle.std.proofs.lemmas.Bool.{eqb-true}
-use Rattle.std.proofs.lemmas.Bool.Decides.{nat_tests}
-use Rattle.std.proofs.lemmas.List.{append-nil, take_at, drop_at, length-replicate}
-use Rattle.spec_base.specs.declared.layout.Layout.{Layout}
-use Rattle.elf_image.specs.declared.image.Image.{Image}
+use Rattle.std.proofs.Common.{◌≡◌, ℕ, ◌+◌, ◌-◌, ◌*◌, ◌<◌, ◌≤◌, List, [], ◌∷◌, ◌++◌, length, take, replicate, arith, sym, ap, subst, refl, ◌∙◌, append_assoc, length-append}
+use Rattle.std.proofs.lemmas.List.{take_at, drop_at, length-replicate}
 use Rattle.elf_writer.specs.declared.part.Part.{Part}
 use Rattle.elf_writer.specs.Headers.{header_bytes, entry_bytes}
 use Rattle.elf_writer.specs.FileParts.{file_header, table_bytes, record_entry, record_start, record_bytes, body_start, body_from, placed, entries_from, file_parts, file_offset, end_of_part}
-use Rattle.elf_writer.specs.RewrittenFile.{Code, IsRewritable, IsCodeOf, contents, rewritten_file}
-use Rattle.elf_writer.specs.Places.{StandsAt, PartsStand, StandsWhole, EachStands}
+use Rattle.elf_writer.specs.RewrittenFile.{contents, rewritten_file}
+use Rattle.elf_writer.specs.Places.{StandsAt, PartsStand, EachStands}
 use Rattle.elf_writer.proofs.FileLemmas.{HaveContents, placed-length, placed-some, file_contents, entries_from-length, file_parts-length}
 
 -- what stands behind a front

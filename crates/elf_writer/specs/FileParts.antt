@@ -1,6 +1,6 @@
 -- The parts of the rewritten file: its header, the entries of its table, and where each part's bytes stand (this project's own; fields and constants by gABI chapters 4 and 5).
 use Rattle.std.specs.Prelude.{ℕ, ◌+◌, ◌-◌, ◌*◌, ◌/◌, ◌%◌, ◌==◌, if◌then◌else◌, List, [], ◌∷◌, ◌++◌, length, map, replicate, codes}
-use Rattle.spec_base.specs.Layout.{range_end, shadow_start, helpers_start, stub_start, link_start, link_bytes, table_start, list_start, copies_start}
+use Rattle.spec_base.specs.Layout.{range_end, shadow_start, helpers_start, helper_words, stub_start, stub_words, link_start, link_bytes, table_start, list_start, copies_start}
 use Rattle.spec_base.specs.declared.layout.Layout.{Layout}
 use Rattle.spec_base.specs.declared.layout.Version.{Version}
 use Rattle.spec_base.specs.declared.layout.Version.TheVariants.{One, Two}
@@ -100,13 +100,13 @@ rounded_to_8 n = (n + 7) / 8 * 8
 abbrev pub shadow_part : Layout → Part
 shadow_part l = code_part shadow_start (64 * (text_count l + 1))
 
--- 282 words
+-- the helpers
 abbrev pub helpers_part : Part
-helpers_part = code_part helpers_start 1128
+helpers_part = code_part helpers_start (4 * helper_words)
 
--- 71 words
+-- the stub
 abbrev pub stub_part : Part
-stub_part = code_part stub_start 284
+stub_part = code_part stub_start (4 * stub_words)
 
 -- shadow text, helpers, stub, link, table, list and copies
 abbrev pub shadow_parts : Layout → List Part
