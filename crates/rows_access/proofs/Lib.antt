@@ -1,0 +1,9 @@
+pub mod Reach
+pub mod CheckWords
+pub mod AccessPlaces
+pub mod LoadWords
+pub mod Lists
+pub mod Copies
+pub mod StoreWords
+pub mod StoreChanges
+pub mod Traps

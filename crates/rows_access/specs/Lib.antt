@@ -1,0 +1,4 @@
+pub mod Accesses
+pub mod CheckRows
+pub mod LoadRows
+pub mod StoreRows
