@@ -54,7 +54,7 @@ failed_run r old new a =
 store_fault_in : (c : Command) (r : Request) (old new : Outside) → CommandTo c r StoreFault old new → Rose old.store.faults new.store.faults
 store_fault_in Plain r old new (inl stopped) = failed_read old.store new.store (image_name r) stopped.0
 store_fault_in Plain r old new (inr a) = failed_run r old new a
-store_fault_in Rewrite r old new h = absurd (let e : StoreFault ≡ NotBuilt = h.0 in cc)
+store_fault_in Rewrite r old new stopped = failed_read old.store new.store (image_name r) stopped.0
 store_fault_in Run r old new h = absurd (let e : StoreFault ≡ NotBuilt = h.0 in cc)
 store_fault_in Trace r old new h = absurd (let e : StoreFault ≡ NotBuilt = h.0 in cc)
 store_fault_in Demo r old new h = absurd (let e : StoreFault ≡ NotBuilt = h.0 in cc)
@@ -91,7 +91,7 @@ put_failed r old new a = subst (λ e. HasSinkCause old.out old.err e new.out new
 
 sink_fault_in : (c : Command) (r : Request) (old new : Outside) → CommandTo c r SinkFault old new → SinkRose old new
 sink_fault_in Plain r old new a = put_failed r old new a
-sink_fault_in Rewrite r old new h = absurd (let e : SinkFault ≡ NotBuilt = h.0 in cc)
+sink_fault_in Rewrite r old new h = inl h.2.2.puts.3
 sink_fault_in Run r old new h = absurd (let e : SinkFault ≡ NotBuilt = h.0 in cc)
 sink_fault_in Trace r old new h = absurd (let e : SinkFault ≡ NotBuilt = h.0 in cc)
 sink_fault_in Demo r old new h = absurd (let e : SinkFault ≡ NotBuilt = h.0 in cc)
@@ -122,7 +122,7 @@ Lacks r store = IfSome store.files (λ files. files (image_name r) ≡ None)
 
 absent_in : (c : Command) (r : Request) (old new : Outside) → CommandTo c r Absent old new → Lacks r old.store
 absent_in Plain r old new h = h.0.told
-absent_in Rewrite r old new h = absurd (let e : Absent ≡ NotBuilt = h.0 in cc)
+absent_in Rewrite r old new h = h.0.told
 absent_in Run r old new h = absurd (let e : Absent ≡ NotBuilt = h.0 in cc)
 absent_in Trace r old new h = absurd (let e : Absent ≡ NotBuilt = h.0 in cc)
 absent_in Demo r old new h = absurd (let e : Absent ≡ NotBuilt = h.0 in cc)
@@ -143,7 +143,7 @@ absent-told words status old new h e = absent_by (command_of words) old new (out
 
 not_usage : (c : Command) (r : Request) (old new : Outside) → CommandTo c r Usage old new → ⊥
 not_usage Plain r old new h = h
-not_usage Rewrite r old new h = let e : Usage ≡ NotBuilt = h.0 in cc
+not_usage Rewrite r old new h = h
 not_usage Run r old new h = let e : Usage ≡ NotBuilt = h.0 in cc
 not_usage Trace r old new h = let e : Usage ≡ NotBuilt = h.0 in cc
 not_usage Demo r old new h = let e : Usage ≡ NotBuilt = h.0 in cc

@@ -11,6 +11,8 @@ use Rattle.whole_file.specs.declared.reading.ReadFault.{ReadFault}
 use Rattle.whole_file.specs.declared.reading.ReadFault.TheVariants as read
 use Rattle.elf_image.specs.Profile.{profile}
 use Rattle.elf_image.specs.declared.refusal.Refusal.{Refusal}
+use Rattle.elf_image.specs.declared.refusal.Refusal.TheVariants.{TooLong}
+use Rattle.rewriter.specs.declared.writing.Rewritten.TheVariants as rewritten
 use Rattle.program_model.specs.PlainRun.{State, Image as Program, Taken}
 use Rattle.command_words.specs.CommandLine.{command_of}
 use Rattle.command_words.specs.declared.command.Command.{Command}
@@ -19,7 +21,7 @@ use Rattle.command_words.specs.declared.request.Request.{Request}
 use Rattle.plain_runner.specs.Runs.{Outside, EndsBy, Agrees}
 use Rattle.plain_runner.specs.declared.ending.Ending.TheVariants as ending
 use Rattle.spechint_commands.specs.Texts.{text_of}
-use Rattle.spechint_commands.specs.Top.{Silent, EndingStatus, Runs, Accepted, PlainTo, CommandTo, IsOutcome, image_name}
+use Rattle.spechint_commands.specs.Top.{Silent, Stopped, EndingStatus, Runs, Accepted, PlainTo, Rewrites, RewriteTo, CommandTo, IsOutcome, image_name}
 use Rattle.spechint_commands.specs.Defined.{EndsAs, IsPlainRun, ByProfile, BySize, ByFile, ByCommand, ByRequest, IsDefined, IsSteady}
 use Rattle.spechint_commands.specs.declared.status.Status.{Status}
 use Rattle.spechint_commands.specs.declared.status.Status.TheVariants.{Done, Exited, Trapped, TurnsOver, Usage, NotBuilt, Absent, Refused, StoreFault, SinkFault, NoMemory}
@@ -73,20 +75,44 @@ told_of : (a b : StoreState) (name : List ℕ) (answer : Result (List ℕ) ReadF
 told_of a b name answer files e r = subst (λ o. IfSome o (λ f. SaysOf (f name) answer r.log)) e r.told
 
 -- a file that was read, by what the profile says of it
-judged : (r : Request) (files : Files) (bytes : List ℕ) (status : Status) (old new : Outside) → files (image_name r) ≡ Some bytes → length bytes ≤ file_limit
-    → ByProfile (profile bytes r.options.layout) files bytes r status old new → ByFile (files (image_name r)) files r status old new
-judged r files bytes status old new file few by =
+judged : (c : Command) (r : Request) (files : Files) (bytes : List ℕ) (status : Status) (old new : Outside) → files (image_name r) ≡ Some bytes → length bytes ≤ file_limit
+    → ByProfile c (profile bytes r.options.layout) files bytes r status old new → ByFile c (files (image_name r)) files r status old new
+judged c r files bytes status old new file few by =
     let small : nat_lt file_limit (length bytes) ≡ false = grind (arith, nat_tests) in
-    subst (λ f. ByFile f files r status old new) (sym file) (subst (λ b. BySize b files bytes r status old new) (sym small) by)
+    subst (λ f. ByFile c f files r status old new) (sym file) (subst (λ b. BySize c b files bytes r status old new) (sym small) by)
+
+-- a file that was read and refused
+judged_refused : (c : Command) (r : Request) (files : Files) (why : Refusal) (bytes : List ℕ) (old new : Outside) → old.store.files ≡ Some files
+    → ReadsWhole old.store (image_name r) (Ok bytes) new.store → profile bytes r.options.layout ≡ Err why → Silent old new
+    → ByFile c (files (image_name r)) files r (Refused why) old new
+judged_refused c r files why bytes old new e whole verdict silent =
+    let told = told_of old.store new.store (image_name r) (Ok bytes) files e whole in
+    judged c r files bytes (Refused why) old new told.0 told.1 (subst (λ v. ByProfile c v files bytes r (Refused why) old new) (sym verdict) (refl, silent))
+
+-- a file that is too long
+refused_unread : (c : Command) (r : Request) (files : Files) (why : Refusal) (old new : Outside) → old.store.files ≡ Some files → Stopped r read.TooLong old new → why ≡ TooLong
+    → ByFile c (files (image_name r)) files r (Refused why) old new
+refused_unread c r files why old new e stopped long =
+    let told = told_of old.store new.store (image_name r) (Err read.TooLong) files e stopped.0 in
+    let large : nat_lt file_limit (length told.0) ≡ true = (let more = told.2 in grind (arith, nat_tests)) in
+    subst (λ f. ByFile c f files r (Refused why) old new) (sym told.1)
+    (subst (λ b. BySize c b files told.0 r (Refused why) old new) (sym large) (ap (λ w. Refused w) long, stopped.1))
+
+-- a file that isn't there
+absent : (c : Command) (r : Request) (files : Files) (old new : Outside) → old.store.files ≡ Some files → Stopped r read.Absent old new
+    → ByFile c (files (image_name r)) files r Absent old new
+absent c r files old new e stopped =
+    let file = told_of old.store new.store (image_name r) (Err read.Absent) files e stopped.0 in
+    subst (λ f. ByFile c f files r Absent old new) (sym file) (refl, stopped.1)
 
 -- an accepted file's program came to its end
 ran : (r : Request) (files : Files) (status : Status) (old new : Outside) → old.store.files ≡ Some files → IsEnd status → Accepted r status old new
-    → ByFile (files (image_name r)) files r status old new
+    → ByFile Plain (files (image_name r)) files r status old new
 ran r files status old new e end a =
     let told = told_of old.store a.between (image_name r) (Ok a.bytes) files e a.read in
     let run = run-IsPlainRun _ files r.options.turns status (record old { store = a.between }) new (a.read.went.keeps.files ∙ e) end a.ran in
-    judged r files a.bytes status old new told.0 told.1
-    (subst (λ v. ByProfile v files a.bytes r status old new) (sym a.accepted)
+    judged Plain r files a.bytes status old new told.0 told.1
+    (subst (λ v. ByProfile Plain v files a.bytes r status old new) (sym a.accepted)
     (record { n = run.n; state = run.state; outs = run.outs; errs = run.errs; reached = run.reached; ends = run.ends; out = run.out; err = run.err; out_log = run.out_log; err_log = run.err_log }))
 
 -- a count that rose didn't stay
@@ -97,28 +123,16 @@ no_sink_fault : (old new : Outside) → SinkRose old new → Steady old.out.faul
 no_sink_fault old new (inl up) o r = clash old.out.faults new.out.faults up o
 no_sink_fault old new (inr up) o r = clash old.err.faults new.err.faults up r
 
-refused : (r : Request) (files : Files) (why : Refusal) (old new : Outside) → old.store.files ≡ Some files → PlainTo r (Refused why) old new
-    → ByFile (files (image_name r)) files r (Refused why) old new
-refused r files why old new e (inl (stopped, long)) =
-    let told = told_of old.store new.store (image_name r) (Err read.TooLong) files e stopped.0 in
-    let large : nat_lt file_limit (length told.0) ≡ true = (let more = told.2 in grind (arith, nat_tests)) in
-    subst (λ f. ByFile f files r (Refused why) old new) (sym told.1)
-    (subst (λ b. BySize b files told.0 r (Refused why) old new) (sym large) (ap (λ w. Refused w) long, stopped.1))
-refused r files why old new e (inr (bytes, whole, verdict, silent)) =
-    let told = told_of old.store new.store (image_name r) (Ok bytes) files e whole in
-    judged r files bytes (Refused why) old new told.0 told.1 (subst (λ v. ByProfile v files bytes r (Refused why) old new) (sym verdict) (refl, silent))
-
 -- `plain`, status by status
 by_status : (r : Request) (files : Files) (status : Status) (old new : Outside) → old.store.files ≡ Some files → PlainTo r status old new
     → Steady old.store.faults new.store.faults → Steady old.out.faults new.out.faults → Steady old.err.faults new.err.faults
-    → (status ≡ NoMemory) ⊎ ByFile (files (image_name r)) files r status old new
+    → (status ≡ NoMemory) ⊎ ByFile Plain (files (image_name r)) files r status old new
 by_status r files (Exited c) old new e h s o w = inr (ran r files (Exited c) old new e tt h)
 by_status r files (Trapped t pc) old new e h s o w = inr (ran r files (Trapped t pc) old new e tt h)
 by_status r files (TurnsOver count) old new e h s o w = inr (ran r files (TurnsOver count) old new e tt h)
-by_status r files Absent old new e h s o w =
-    (let file = told_of old.store new.store (image_name r) (Err read.Absent) files e h.0 in
-    inr (subst (λ f. ByFile f files r Absent old new) (sym file) (refl, h.1)))
-by_status r files (Refused why) old new e h s o w = inr (refused r files why old new e h)
+by_status r files Absent old new e h s o w = inr (absent Plain r files old new e h)
+by_status r files (Refused why) old new e (inl (stopped, long)) s o w = inr (refused_unread Plain r files why old new e stopped long)
+by_status r files (Refused why) old new e (inr (bytes, whole, verdict, silent)) s o w = inr (judged_refused Plain r files why bytes old new e whole verdict silent)
 by_status r files StoreFault old new e (inl stopped) s o w = absurd (clash old.store.faults new.store.faults (failed_read old.store new.store (image_name r) stopped.0) s)
 by_status r files StoreFault old new e (inr a) s o w = absurd (clash old.store.faults new.store.faults (failed_run r old new a) s)
 by_status r files SinkFault old new e a s o w = absurd (no_sink_fault old new (put_failed r old new a) o w)
@@ -127,13 +141,38 @@ by_status r files Done old new e h s o w = absurd h
 by_status r files Usage old new e h s o w = absurd h
 by_status r files NotBuilt old new e h s o w = absurd h
 
+-- a rewritten file that was put whole
+put_whole : (r : Request) (files : Files) (n : ℕ) (old new : Outside) → old.store.files ≡ Some files → Rewrites r (rewritten.Done n) old new
+    → ByFile Rewrite (files (image_name r)) files r Done old new
+put_whole r files n old new e (bytes, whole, (image, verdict, puts), err) =
+    let told = told_of old.store new.store (image_name r) (Ok bytes) files e whole in
+    judged Rewrite r files bytes Done old new told.0 told.1 (subst (λ v. ByProfile Rewrite v files bytes r Done old new) (sym verdict) (refl, puts.puts, err))
+
+-- `rewrite`, status by status
+by_rewrite : (r : Request) (files : Files) (status : Status) (old new : Outside) → old.store.files ≡ Some files → RewriteTo r status old new
+    → Steady old.store.faults new.store.faults → Steady old.out.faults new.out.faults
+    → (status ≡ NoMemory) ⊎ ByFile Rewrite (files (image_name r)) files r status old new
+by_rewrite r files Done old new e h s o = inr (put_whole r files h.0 old new e h.1)
+by_rewrite r files Absent old new e h s o = inr (absent Rewrite r files old new e h)
+by_rewrite r files (Refused why) old new e (inl (stopped, long)) s o = inr (refused_unread Rewrite r files why old new e stopped long)
+by_rewrite r files (Refused why) old new e (inr (bytes, whole, (verdict, out), err)) s o =
+    inr (judged_refused Rewrite r files why bytes old new e whole verdict (out, err))
+by_rewrite r files StoreFault old new e h s o = absurd (clash old.store.faults new.store.faults (failed_read old.store new.store (image_name r) h.0) s)
+by_rewrite r files SinkFault old new e h s o = absurd (clash old.out.faults new.out.faults h.2.2.puts.3 o)
+by_rewrite r files NoMemory old new e h s o = inl refl
+by_rewrite r files (Exited c) old new e h s o = absurd h
+by_rewrite r files (Trapped t pc) old new e h s o = absurd h
+by_rewrite r files (TurnsOver count) old new e h s o = absurd h
+by_rewrite r files Usage old new e h s o = absurd h
+by_rewrite r files NotBuilt old new e h s o = absurd h
+
 -- ---- commands
 
 by_command : (c : Command) (r : Request) (files : Files) (status : Status) (old new : Outside) → old.store.files ≡ Some files → CommandTo c r status old new
     → Steady old.store.faults new.store.faults → Steady old.out.faults new.out.faults → Steady old.err.faults new.err.faults
     → (status ≡ NoMemory) ⊎ ByCommand c files r status old new
 by_command Plain r files status old new e h s o w = by_status r files status old new e h s o w
-by_command Rewrite r files status old new e h s o w = inr h
+by_command Rewrite r files status old new e h s o w = by_rewrite r files status old new e h s o
 by_command Run r files status old new e h s o w = inr h
 by_command Trace r files status old new e h s o w = inr h
 by_command Demo r files status old new e h s o w = inr h
@@ -163,9 +202,25 @@ later_err r Done old new h = absurd h
 later_err r Usage old new h = absurd h
 later_err r NotBuilt old new h = absurd h
 
+-- rewriting puts nothing on standard error
+rewrite_err : (r : Request) (status : Status) (old new : Outside) → RewriteTo r status old new → new.err ≡ old.err
+rewrite_err r Done old new h = h.1.3
+rewrite_err r SinkFault old new h = h.3
+rewrite_err r Absent old new h = h.1.1
+rewrite_err r (Refused why) old new (inl (stopped, long)) = stopped.1.1
+rewrite_err r (Refused why) old new (inr h) = h.3
+rewrite_err r StoreFault old new h = h.1.1
+rewrite_err r NoMemory old new (inl stopped) = stopped.1.1
+rewrite_err r NoMemory old new (inr h) = h.3
+rewrite_err r (Exited c) old new h = absurd h
+rewrite_err r (Trapped t pc) old new h = absurd h
+rewrite_err r (TurnsOver count) old new h = absurd h
+rewrite_err r Usage old new h = absurd h
+rewrite_err r NotBuilt old new h = absurd h
+
 later_in : (c : Command) (r : Request) (status : Status) (old new : Outside) → CommandTo c r status old new → old.err.faults ≤ new.err.faults
 later_in Plain r status old new h = later_err r status old new h
-later_in Rewrite r status old new h = silent_err old new h.1.1
+later_in Rewrite r status old new h = (let same = ap (λ s. s.faults) (rewrite_err r status old new h) in omega arith)
 later_in Run r status old new h = silent_err old new h.1.1
 later_in Trace r status old new h = silent_err old new h.1.1
 later_in Demo r status old new h = silent_err old new h.1.1

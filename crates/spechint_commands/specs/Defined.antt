@@ -11,6 +11,7 @@ use Rattle.elf_image.specs.declared.refusal.Refusal.{Refusal}
 use Rattle.elf_image.specs.declared.refusal.Refusal.TheVariants.{TooLong}
 use Rattle.program_model.specs.PlainRun.{State, Image as Program, Taken, plain_state, TrapsAt, end_of}
 use Rattle.plain_runner.specs.Runs.{Outside, Agrees, output_of}
+use Rattle.rewriter.specs.Layouts.{rewritten}
 use Rattle.command_words.specs.CommandLine.{command_of}
 use Rattle.command_words.specs.declared.command.Command.{Command}
 use Rattle.command_words.specs.declared.command.Command.TheVariants.{Plain, Rewrite, Run, Trace, Demo, Replay, Plan}
@@ -49,29 +50,38 @@ pub record IsPlainRun (p : Program) (files : Files) (turns : ℕ) (status : Stat
   pub out_log : SinkLog old.out outs new.out
   pub err_log : SinkLog old.err errs new.err
 
--- ---- the command `plain`
+-- ---- commands
 
--- an accepted file's program runs, and another file is refused
-abbrev pub ByProfile : Result Image Refusal → Files → List ℕ → Request → Status → Outside → Outside → Type 0
-ByProfile (Ok image) files bytes r status old new = IsPlainRun (asked_program r bytes image) files r.options.turns status old new
-ByProfile (Err why) files bytes r status old new = (status ≡ Refused why) × Silent old new
+-- what a command comes to on an accepted file
+abbrev pub ByAccepted : Command → Files → List ℕ → Image → Request → Status → Outside → Outside → Type 0
+ByAccepted Plain files bytes image r status old new = IsPlainRun (asked_program r bytes image) files r.options.turns status old new
+ByAccepted Rewrite files bytes image r status old new =
+    (status ≡ Done) × PutsText old.out (rewritten bytes image r.options.regions r.options.layout) true new.out × (new.err ≡ old.err)
+ByAccepted Run files bytes image r status old new = ⊥
+ByAccepted Trace files bytes image r status old new = ⊥
+ByAccepted Demo files bytes image r status old new = ⊥
+ByAccepted Replay files bytes image r status old new = ⊥
+ByAccepted Plan files bytes image r status old new = ⊥
+
+-- a file that isn't accepted is refused
+abbrev pub ByProfile : Command → Result Image Refusal → Files → List ℕ → Request → Status → Outside → Outside → Type 0
+ByProfile c (Ok image) files bytes r status old new = ByAccepted c files bytes image r status old new
+ByProfile c (Err why) files bytes r status old new = (status ≡ Refused why) × Silent old new
 
 -- a file that is too long is refused unread
-abbrev pub BySize : Bool → Files → List ℕ → Request → Status → Outside → Outside → Type 0
-BySize true files bytes r status old new = (status ≡ Refused TooLong) × Silent old new
-BySize false files bytes r status old new = ByProfile (profile bytes r.options.layout) files bytes r status old new
+abbrev pub BySize : Command → Bool → Files → List ℕ → Request → Status → Outside → Outside → Type 0
+BySize c true files bytes r status old new = (status ≡ Refused TooLong) × Silent old new
+BySize c false files bytes r status old new = ByProfile c (profile bytes r.options.layout) files bytes r status old new
 
 -- by whether there is such a file
-abbrev pub ByFile : Option (List ℕ) → Files → Request → Status → Outside → Outside → Type 0
-ByFile None files r status old new = (status ≡ Absent) × Silent old new
-ByFile (Some bytes) files r status old new = BySize (nat_lt file_limit (length bytes)) files bytes r status old new
-
--- ---- all commands
+abbrev pub ByFile : Command → Option (List ℕ) → Files → Request → Status → Outside → Outside → Type 0
+ByFile c None files r status old new = (status ≡ Absent) × Silent old new
+ByFile c (Some bytes) files r status old new = BySize c (nat_lt file_limit (length bytes)) files bytes r status old new
 
 -- by the command
 abbrev pub ByCommand : Command → Files → Request → Status → Outside → Outside → Type 0
-ByCommand Plain files r status old new = ByFile (files (image_name r)) files r status old new
-ByCommand Rewrite files r status old new = (status ≡ NotBuilt) × Untouched old new
+ByCommand Plain files r status old new = ByFile Plain (files (image_name r)) files r status old new
+ByCommand Rewrite files r status old new = ByFile Rewrite (files (image_name r)) files r status old new
 ByCommand Run files r status old new = (status ≡ NotBuilt) × Untouched old new
 ByCommand Trace files r status old new = (status ≡ NotBuilt) × Untouched old new
 ByCommand Demo files r status old new = (status ≡ NotBuilt) × Untouched old new

@@ -1,5 +1,5 @@
 -- What the top call does, status by status (this project's own).
-use Rattle.std.specs.Prelude.{◌≡◌, ◌⊎◌, ℕ, Bool, List, [], slice_index_or, Ok, Err, MatchOption}
+use Rattle.std.specs.Prelude.{◌≡◌, ◌⊎◌, ℕ, Bool, List, [], slice_index_or, Result, Ok, Err, MatchOption}
 use Rattle.world_io.specs.Outside.{StoreState, SinkState}
 use Rattle.world_io.specs.Texts.{PutsText}
 use Rattle.whole_file.specs.Reading.{ReadsWhole}
@@ -17,6 +17,9 @@ use Rattle.program_loader.specs.Programs.{program_of}
 use Rattle.plain_runner.specs.Runs.{Outside, RunsTo}
 use Rattle.plain_runner.specs.declared.ending.Ending.{Ending}
 use Rattle.plain_runner.specs.declared.ending.Ending.TheVariants as ending
+use Rattle.rewriter.specs.Rewriting.{RewritesTo}
+use Rattle.rewriter.specs.declared.writing.Rewritten.{Rewritten}
+use Rattle.rewriter.specs.declared.writing.Rewritten.TheVariants as rewritten
 use Rattle.command_words.specs.CommandLine.{command_of}
 use Rattle.command_words.specs.declared.command.Command.{Command}
 use Rattle.command_words.specs.declared.command.Command.TheVariants.{Plain, Rewrite, Run, Trace, Demo, Replay, Plan}
@@ -38,6 +41,15 @@ Untouched old new = (new.store ≡ old.store) × Silent old new
 -- the name of the image: the first word that a command acts on
 abbrev pub image_name : Request → List ℕ
 image_name r = slice_index_or r.arguments 0 []
+
+-- the reading of the image's file: its bytes, or the status that the command ends with
+abbrev pub FileRead : Request → Result (List ℕ) Status → StoreState → StoreState → Type 0
+FileRead r (Ok bytes) old new = ReadsWhole old (image_name r) (Ok bytes) new
+FileRead r (Err Absent) old new = ReadsWhole old (image_name r) (Err read.Absent) new
+FileRead r (Err (Refused why)) old new = ReadsWhole old (image_name r) (Err read.TooLong) new × (why ≡ TooLong)
+FileRead r (Err StoreFault) old new = ReadsWhole old (image_name r) (Err read.Failed) new
+FileRead r (Err NoMemory) old new = ReadsWhole old (image_name r) (Err read.NoMemory) new
+FileRead r (Err other) old new = ⊥
 
 -- the reading of the image came to a fault
 abbrev pub Stopped : Request → ReadFault → Outside → Outside → Type 0
@@ -95,7 +107,7 @@ pub record Accepted (r : Request) (status : Status) (old new : Outside) : Type 0
   pub accepted : profile bytes r.options.layout ≡ Ok image
   pub ran : Runs (asked_program r bytes image) r.options.turns status (record old { store = between }) new
 
--- ---- commands
+-- ---- the command `plain`
 
 -- what a status says of the command `plain`
 abbrev pub PlainTo : Request → Status → Outside → Outside → Type 0
@@ -111,10 +123,41 @@ PlainTo r Done old new = ⊥
 PlainTo r Usage old new = ⊥
 PlainTo r NotBuilt old new = ⊥
 
+-- ---- the command `rewrite`
+
+-- the rewritten file of an accepted image was put on standard output, whole or up to a put that failed
+abbrev pub Rewrites : Request → Rewritten → Outside → Outside → Type 0
+Rewrites r answer old new =
+    (bytes : List ℕ) × ReadsWhole old.store (image_name r) (Ok bytes) new.store
+    × RewritesTo bytes r.options.regions r.options.layout answer old.out new.out × (new.err ≡ old.err)
+
+-- the status of an answer
+abbrev pub RewrittenStatus : Rewritten → Status → Type 0
+RewrittenStatus (rewritten.Done n) status = status ≡ Done
+RewrittenStatus (rewritten.Refused why) status = status ≡ Refused why
+RewrittenStatus rewritten.SinkFault status = status ≡ SinkFault
+RewrittenStatus rewritten.NoMemory status = status ≡ NoMemory
+
+-- what a status says of the command `rewrite`
+abbrev pub RewriteTo : Request → Status → Outside → Outside → Type 0
+RewriteTo r Done old new = (n : ℕ) × Rewrites r (rewritten.Done n) old new
+RewriteTo r SinkFault old new = Rewrites r rewritten.SinkFault old new
+RewriteTo r Absent old new = Stopped r read.Absent old new
+RewriteTo r (Refused why) old new = (Stopped r read.TooLong old new × (why ≡ TooLong)) ⊎ Rewrites r (rewritten.Refused why) old new
+RewriteTo r StoreFault old new = Stopped r read.Failed old new
+RewriteTo r NoMemory old new = Stopped r read.NoMemory old new ⊎ Rewrites r rewritten.NoMemory old new
+RewriteTo r (Exited code) old new = ⊥
+RewriteTo r (Trapped cause pc) old new = ⊥
+RewriteTo r (TurnsOver count) old new = ⊥
+RewriteTo r Usage old new = ⊥
+RewriteTo r NotBuilt old new = ⊥
+
+-- ---- all commands
+
 -- what a command does before its status is told
 abbrev pub CommandTo : Command → Request → Status → Outside → Outside → Type 0
 CommandTo Plain r status old new = PlainTo r status old new
-CommandTo Rewrite r status old new = (status ≡ NotBuilt) × Untouched old new
+CommandTo Rewrite r status old new = RewriteTo r status old new
 CommandTo Run r status old new = (status ≡ NotBuilt) × Untouched old new
 CommandTo Trace r status old new = (status ≡ NotBuilt) × Untouched old new
 CommandTo Demo r status old new = (status ≡ NotBuilt) × Untouched old new

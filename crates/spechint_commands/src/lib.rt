@@ -1,7 +1,9 @@
 //! The commands of `spechint`, over a store of files and two sinks.
 #![tactic(auto)]
 
+mod image;
 mod plain;
+mod rewrite;
 mod status;
 #[cfg(test)]
 mod tests;

@@ -4,27 +4,16 @@ ghost use Rattle.std.specs.Prelude.{◌≡◌, ℕ, ◌≤◌, ◌<◌, length, 
 ghost use Rattle.elf_image.specs.Image.{IsImage};
 ghost use Rattle.plain_runner.specs.Runs.{Outside};
 ghost use Rattle.command_words.specs.Limits.{IsWithinLimits};
-ghost use Rattle.spechint_commands.specs.Top.{PlainTo, RunsImage, EndingStatus, image_name};
+ghost use Rattle.spechint_commands.specs.Top.{PlainTo, RunsImage, EndingStatus};
 
+use crate::image::read_file;
 use crate::status::Status;
 use command_words::Request;
-use elf_image::{Image, Refusal, read_as};
+use elf_image::{Image, read_as};
 use plain_runner::{Ending, run};
 use program_loader::load;
-use spec_base::Name;
 use std::alloc::Global;
-use whole_file::{ReadFault, read_whole};
 use world_io::{Sink, Store};
-
-/// The word for the image.
-pub fn image_word<'a>(request: &'a Request) -> &'a [u8]
-    ensures { result.now ≡ image_name request.now }
-{
-    match request.arguments.as_slice() {
-        [image, ..] => image.as_bytes(),
-        [] => b"",
-    }
-}
 
 fn status_of(ending: Ending) -> Status
     ensures { EndingStatus ending result }
@@ -85,15 +74,9 @@ pub fn plain<D: Store, O: Sink, E: Sink>(
         (record { store = D.state store.old; out = O.state out.old; err = E.state err.old })
         (record { store = D.state store.new; out = O.state out.new; err = E.state err.new }) }
 {
-    let Some(name) = Name::new(image_word(request)) else {
-        unreachable!()
-    };
-    let bytes = match read_whole(alloc, &name, store) {
+    let bytes = match read_file(alloc, request, store) {
         Ok(bytes) => bytes,
-        Err(ReadFault::Absent) => return Status::Absent,
-        Err(ReadFault::TooLong) => return Status::Refused(Refusal::TooLong),
-        Err(ReadFault::Failed) => return Status::StoreFault,
-        Err(ReadFault::NoMemory) => return Status::NoMemory,
+        Err(status) => return status,
     };
     let image = match read_as(alloc, &bytes, request.options.layout) {
         Ok(image) => image,

@@ -147,7 +147,7 @@ fn command(
         store.add(Name::new(b"w1").ok_or("name")?, file)?;
     }
     store.add(Name::new(b"data").ok_or("name")?, data)?;
-    let mut out = MemSink::new(alloc, 100, stops.to_vec(alloc)?, Vec::new(alloc))?;
+    let mut out = MemSink::new(alloc, 20_000, stops.to_vec(alloc)?, Vec::new(alloc))?;
     let mut err = MemSink::new(alloc, 200, Vec::new(alloc), Vec::new(alloc))?;
     let mut given = Vec::new(alloc);
     for word in words {
@@ -349,5 +349,22 @@ fn the_layout_moves_the_end_of_the_range(rt: HostRuntime) -> Result<(), Fail> {
         &[],
     )?;
     assert_eq!(rt; told.status, Status::Trapped(Trap::LoadOut, 0x1_007C));
+    Ok(())
+}
+
+#[test]
+fn a_rewritten_file_is_put(rt: HostRuntime) -> Result<(), Fail> {
+    let alloc = rt.alloc();
+    let file = image(alloc, &EXITS)?;
+    let told = command(alloc, &["rewrite", "w1"], &file, b"", &[], &[])?;
+    assert_eq!(rt; told.status, Status::Done);
+    assert_eq!(rt; told.out.len(), 16_668);
+    assert_eq!(rt; told.err.len(), 0);
+    let again = command(alloc, &["rewrite", "w1"], &told.out, b"", &[], &[])?;
+    assert_eq!(rt; again.status, Status::Refused(Refusal::Already));
+    let told = command(alloc, &["rewrite", "w1"], &file, b"", &[], &[1])?;
+    assert_eq!(rt; told.status, Status::SinkFault);
+    let told = command(alloc, &["rewrite", "w1", "w1"], &file, b"", &[], &[])?;
+    assert_eq!(rt; told.status, Status::Usage);
     Ok(())
 }

@@ -7,7 +7,9 @@ ghost use Rattle.spechint_commands.specs.Defined.{IsSteady, IsDefined};
 ghost use Rattle.command_words.specs.Limits.{IsWithinLimits};
 ghost use Rattle.spechint_commands.specs.Top.{IsOutcome, CommandTo, image_name};
 
-use crate::plain::{image_word, plain};
+use crate::image::image_word;
+use crate::plain::plain;
+use crate::rewrite::rewrite;
 use crate::status::{Status, tell};
 use command_words::{Command, Request, read_words};
 use std::alloc::Global;
@@ -28,12 +30,9 @@ fn command<D: Store, O: Sink, E: Sink>(
 {
     match request.command {
         Command::Plain => plain(alloc, request, store, out, err),
-        Command::Rewrite
-        | Command::Run
-        | Command::Trace
-        | Command::Demo
-        | Command::Replay
-        | Command::Plan => Status::NotBuilt,
+        Command::Rewrite => rewrite(alloc, request, store, out),
+        Command::Run | Command::Trace | Command::Demo | Command::Replay | Command::Plan =>
+            Status::NotBuilt,
     }
 }
 
@@ -63,7 +62,7 @@ fn outcome<D: Store, O: Sink, E: Sink>(
 }
 
 /// Does what the words of a command line say, over a store of files and two sinks: `plain` runs an
-/// image by itself. The other commands aren't built yet.
+/// image by itself, `rewrite` puts its rewritten file. The other commands aren't built yet.
 pub fn spechint<D: Store, O: Sink, E: Sink>(
     alloc: Global,
     words: &[String],
