@@ -1,0 +1,7 @@
+pub mod Building
+pub mod Targets
+pub mod PlainWords
+pub mod BranchWords
+pub mod JalWords
+pub mod JalrWords
+pub mod Crossing

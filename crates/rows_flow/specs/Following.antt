@@ -1,0 +1,61 @@
+-- How the block of an instruction follows the program: it arrives where the instruction goes on, with the registers that it gives, or parks where it can't go on (this project's own).
+use Rattle.std.specs.Prelude.{ℕ, ◌%◌, ◌≡◌, ◌≤◌, ◌<◌, false, IsTrue}
+use Rattle.spec_base.specs.Layout.{is_lawful}
+use Rattle.spec_base.specs.declared.layout.Layout.{Layout}
+use Rattle.spec_base.specs.declared.machine.Trap.{Trap}
+use Rattle.spec_base.specs.declared.machine.View.TheVariants.{Plain}
+use Rattle.spec_base.specs.declared.park.Park.{Park}
+use Rattle.spec_base.specs.declared.park.Park.TheVariants as park
+use Rattle.rv_decode.specs.declared.instr.Instr.{Instr}
+use Rattle.rv_model.specs.Memory.{Memory}
+use Rattle.rv_model.specs.Registers.{Registers}
+use Rattle.rv_model.specs.Rights.{Rights, in_text}
+use Rattle.rv_model.specs.Effect.{Effect, Next, Trapped, effect}
+use Rattle.side_model.specs.Hart.{Regs, Priv}
+use Rattle.side_model.specs.Tables.{Tabs}
+use Rattle.side_model.specs.Places.{Place}
+use Rattle.side_model.specs.Words.{Out}
+use Rattle.side_model.specs.Rows.{Led}
+use Rattle.side_model.specs.Sees.{HasRegs}
+
+-- an instruction of the program stands at p
+pub record IsInstruction (l : Layout) (p : ℕ) : Type 0 where
+  pub lawful : IsTrue (is_lawful l)
+  pub above : l.text_start ≤ p
+  pub below : p < l.text_end
+  pub whole : p % 4 ≡ 0
+
+-- a word leaves the tables and the memory
+pub record Unchanged (t : Tabs) (m : Memory) (t' : Tabs) (m' : Memory) : Type 0 where
+  pub tables : t' ≡ t
+  pub memory : m' ≡ m
+
+-- ---- what an instruction does
+
+-- it goes on at this pc with these registers
+pub record GoesOn (e : Effect) (pc : ℕ) (q : Regs) : Type 0 where
+  pub registers : Registers
+  pub next : e ≡ Next registers pc
+  pub shown : HasRegs registers q
+
+-- it traps, or goes on outside the text
+pub data GoesOut (l : Layout) : Effect → Type 0 where
+  traps : (t : Trap) → GoesOut l (Trapped t)
+  leaves : (rs : Registers) (pc : ℕ) → in_text l pc ≡ false → GoesOut l (Next rs pc)
+
+-- ---- its block, for the instruction i at p with the program's registers q at word 1
+
+-- the block arrives where the program goes on, with the program's registers there
+pub record FlowArrives (p : ℕ) (i : Instr) (q : Regs) (target : ℕ) (rs : Regs) : Type 0 where
+  pub goes : (rights : Rights) (memory : Memory) (was : Registers) → HasRegs was q → GoesOn (effect Plain rights memory was p i) target rs
+
+-- the block parks at FAULT where the program traps, or goes on outside the text, where it would trap next
+pub record FlowFaults (l : Layout) (p : ℕ) (i : Instr) (q : Regs) (cause : Park) : Type 0 where
+  pub fault : cause ≡ park.Fault
+  pub out : (rights : Rights) (memory : Memory) (was : Registers) → HasRegs was q → GoesOut l (effect Plain rights memory was p i)
+
+-- a word with n words left leads to a row of the block, to an arrival or to a park, and leaves the tables t and the memory m
+abbrev pub Follows : Layout → Memory → ℕ → Instr → Regs → ℕ → (Place → Regs → Priv → Tabs → ℕ → Type 0) → Tabs → Memory → ℕ → Out → Type 0
+Follows l program p i q base Row t m n =
+    Led l program base (λ place rs s t' m' k. Row place rs s t' k × Unchanged t m t' m') (λ target rs t' m'. FlowArrives p i q target rs × Unchanged t m t' m')
+    (λ cause t' m'. FlowFaults l p i q cause × Unchanged t m t' m') n

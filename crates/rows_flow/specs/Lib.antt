@@ -1,0 +1,5 @@
+pub mod Following
+pub mod PlainRows
+pub mod BranchRows
+pub mod JalRows
+pub mod JalrRows
