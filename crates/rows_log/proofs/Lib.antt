@@ -1,0 +1,10 @@
+pub mod QueueLaws
+pub mod CallWords
+pub mod RestartWords
+pub mod CallsLeave
+pub mod LinkLeft
+pub mod PlannedReads
+pub mod FillTables
+pub mod FillViews
+pub mod FilledReads
+pub mod MovesLeave

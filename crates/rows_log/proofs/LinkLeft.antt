@@ -1,0 +1,226 @@
+-- A word of the shadow that is no store through a register leaves the link, and most words are none.
+use Rattle.std.proofs.Common.{◌≡◌, ℕ, zero, suc, ◌%◌, Bool, true, false, not, ◌&&◌, ◌==◌, List, [], ◌∷◌, Option, Some, None, refl, ap, subst}
+use Rattle.spec_base.specs.Word.{plus_int}
+use Rattle.spec_base.specs.declared.layout.Layout.{Layout}
+use Rattle.spec_base.specs.declared.machine.View.TheVariants.{Shadow}
+use Rattle.spec_base.specs.declared.note.ShadowState.{ShadowState}
+use Rattle.spec_base.specs.declared.note.ShadowState.TheVariants.{Never, Running, Stopped, Parked}
+use Rattle.rv_decode.specs.declared.instr.Instr.{Instr}
+use Rattle.rv_decode.specs.declared.instr.Instr.TheVariants.{Lui, Auipc, Jal, Jalr, Branch, Load, Store, OpImm, OpImmW, Op, OpW, Fence, Ecall, Ebreak, Hgate, Hleave, Hsite, Hkey, Hstop, Hrestart, Hcall, Hpark, Illegal}
+use Rattle.rv_decode.specs.declared.instr.LoadOp.{LoadOp}
+use Rattle.rv_model.specs.Memory.{Memory}
+use Rattle.rv_model.specs.Registers.{Registers, reg}
+use Rattle.rv_model.specs.Rights.{in_private, shadow_rights}
+use Rattle.rv_model.specs.Arithmetic.{store_width, is_taken}
+use Rattle.rv_model.specs.Effect.{Effect, effect, jump_if, branch_if, load_if, store_if}
+use Rattle.rv_model.specs.Space.{shadow_sees}
+use Rattle.code_model.specs.Blocks.{block, guard_block, with_pad, jal_if, taken_word, is_target, load_restore, link_spill}
+use Rattle.run_model.specs.Run.{World, Run, Answer, rewritten_words}
+use Rattle.run_model.specs.ShadowMoves.{shadow_in, shadow_after, shadow_at_word, shadow_stores, shadow_plan, fetch_shadow, arrived_if, word_counted, is_running, is_arrival}
+use Rattle.side_model.specs.Places.{Helper, Loading, Storing, Jumping, LoadTail, StoreTail, Appending, Restarting, Faulting, FullUp, LogFullUp, W1, W2, W4, W8, helper_words}
+use Rattle.rows_log.specs.Queue.{LeavesLink}
+use Rattle.rows_log.specs.LinkWords.{stores_out, NoneStores, is_store, has_stores, BlocksStoreNot, GuardStoresNot, HelpersStoreNot, WordsLeaveLink}
+use Rattle.rows_log.proofs.CallsLeave.{calls-leave_link}
+
+-- ---- words
+
+-- none of these words stores
+abbrev none_stores : List Instr → Bool
+none_stores [] = true
+none_stores (i ∷ is) = not (stores_out i) && none_stores is
+
+-- so each of them doesn't
+none-each : (words : List Instr) → none_stores words ≡ true → NoneStores words
+none-each [] h n i e = absurd (no e)
+  where
+    no : None ≡ Some i → ⊥
+    no e = cc
+none-each (x ∷ words) h zero i e = let is : x ≡ i = cc in subst (λ (j : Instr). stores_out j ≡ false) is (first (stores_out x) (none_stores words) h)
+  where
+    first : (b c : Bool) → (not b && c) ≡ true → b ≡ false
+    first false c h = refl
+    first true c h = absurd (no h)
+      where
+        no : false ≡ true → ⊥
+        no e = cc
+none-each (x ∷ words) h (suc n) i e = none-each words (rest (stores_out x) (none_stores words) h) n i e
+  where
+    rest : (b c : Bool) → (not b && c) ≡ true → c ≡ true
+    rest false c h = h
+    rest true c h = absurd (no h)
+      where
+        no : false ≡ true → ⊥
+        no e = cc
+
+-- ---- blocks with a choice
+
+jal-none : (b : Bool) (l : Layout) (p rd t : ℕ) → none_stores (with_pad (jal_if b l p rd t)) ≡ true
+jal-none true l p rd t = refl
+jal-none false l p rd t = refl
+
+spill-none : (b : Bool) → stores_out (link_spill b) ≡ false
+spill-none true = refl
+spill-none false = refl
+
+restore-none : (b : Bool) → stores_out (load_restore b) ≡ false
+restore-none true = refl
+restore-none false = refl
+
+taken-none : (b : Bool) (l : Layout) (p t : ℕ) → stores_out (taken_word b l p t) ≡ false
+taken-none true l p t = refl
+taken-none false l p t = refl
+
+-- ---- statements on words
+
+block-none : (l : Layout) (p : ℕ) (i : Instr) → is_store i ≡ false → none_stores (block l p i) ≡ true
+block-none l p (Lui rd imm) h = refl
+block-none l p (Auipc rd imm) h = refl
+block-none l p (Jal rd imm) h = jal-none (is_target l (plus_int p imm)) l p rd (plus_int p imm)
+block-none l p (Jalr rd rs1 imm) h = ap (λ (b : Bool). not b && true) (spill-none (rd == 31))
+block-none l p (Branch op rs1 rs2 imm) h = ap (λ (b : Bool). not b && true) (taken-none (is_target l (plus_int p imm)) l p (plus_int p imm))
+block-none l p (Load op rd rs1 imm) h = ap (λ (b : Bool). not b && true) (restore-none (rd == 31))
+block-none l p (Store op rs1 rs2 imm) h = absurd (no h)
+  where
+    no : true ≡ false → ⊥
+    no e = cc
+block-none l p (OpImm op rd rs1 imm) h = refl
+block-none l p (OpImmW op rd rs1 imm) h = refl
+block-none l p (Op op rd rs1 rs2) h = refl
+block-none l p (OpW op rd rs1 rs2) h = refl
+block-none l p (Fence word) h = refl
+block-none l p Ecall h = refl
+block-none l p Ebreak h = refl
+block-none l p Hgate h = refl
+block-none l p Hleave h = refl
+block-none l p (Hsite rd) h = refl
+block-none l p (Hkey rd) h = refl
+block-none l p Hstop h = refl
+block-none l p Hrestart h = refl
+block-none l p (Hcall unhinted) h = refl
+block-none l p (Hpark cause) h = refl
+block-none l p Illegal h = refl
+
+pub blocks-store_not : BlocksStoreNot
+blocks-store_not l p i h = none-each (block l p i) (block-none l p i h)
+
+pub guard-stores_not : GuardStoresNot
+guard-stores_not = none-each guard_block refl
+
+helper-none : (l : Layout) (h : Helper) → has_stores h ≡ false → none_stores (helper_words l h) ≡ true
+helper-none l (Loading W1) e = refl
+helper-none l (Loading W2) e = refl
+helper-none l (Loading W4) e = refl
+helper-none l (Loading W8) e = refl
+helper-none l (Storing W1) e = refl
+helper-none l (Storing W2) e = refl
+helper-none l (Storing W4) e = refl
+helper-none l (Storing W8) e = refl
+helper-none l Jumping e = refl
+helper-none l LoadTail e = refl
+helper-none l StoreTail e = absurd (no e)
+  where
+    no : true ≡ false → ⊥
+    no e = cc
+helper-none l Appending e = absurd (no e)
+  where
+    no : true ≡ false → ⊥
+    no e = cc
+helper-none l Restarting e = absurd (no e)
+  where
+    no : true ≡ false → ⊥
+    no e = cc
+helper-none l Faulting e = refl
+helper-none l FullUp e = refl
+helper-none l LogFullUp e = refl
+
+pub helpers-store_not : HelpersStoreNot
+helpers-store_not l h e = none-each (helper_words l h) (helper-none l h e)
+
+-- ---- runs
+
+module _ (w : World) (x : Answer) (r : Run) where
+  abbrev Leaves : Effect → Type 0
+  Leaves e = LeavesLink r.shared (shadow_after w x r e).shared
+
+  same : LeavesLink r.shared r.shared
+  same a h = refl
+
+  jump-leaves : (b : Bool) (rs : Registers) (target : ℕ) → Leaves (jump_if b rs target)
+  jump-leaves true rs target = same
+  jump-leaves false rs target = same
+
+  branch-leaves : (b : Bool) (rs : Registers) (pc target : ℕ) → Leaves (branch_if b rs pc target)
+  branch-leaves true rs pc target = jump-leaves (target % 4 == 0) rs target
+  branch-leaves false rs pc target = same
+
+  load-leaves : (b c : Bool) (m : Memory) (op : LoadOp) (rs : Registers) (pc rd a : ℕ) → Leaves (load_if b c m op rs pc rd a)
+  load-leaves false c m op rs pc rd a = same
+  load-leaves true false m op rs pc rd a = same
+  load-leaves true true m op rs pc rd a = same
+
+  -- a store to the private page
+  store-leaves : (b c : Bool) (a width v : ℕ) → not (in_private a) ≡ false → Leaves (store_if b c a width v)
+  store-leaves false c a width v h = same
+  store-leaves true false a width v h = same
+  store-leaves true true a width v h = by_test (in_private a) h
+    where
+      by_test : (b : Bool) → not b ≡ false → LeavesLink r.shared (shadow_stores b r a width v).shared
+      by_test true h = same
+      by_test false h = absurd (no h)
+        where
+          no : true ≡ false → ⊥
+          no e = cc
+
+  module _ (m : Memory) (rs : Registers) (pc : ℕ) where
+    -- each instruction
+    instr-leaves : (i : Instr) → stores_out i ≡ false → Leaves (effect Shadow (shadow_rights w.image.layout) m rs pc i)
+    instr-leaves (Lui rd imm) h = same
+    instr-leaves (Auipc rd imm) h = same
+    instr-leaves (Jal rd imm) h = jump-leaves _ _ _
+    instr-leaves (Jalr rd rs1 imm) h = jump-leaves _ _ _
+    instr-leaves (Branch op rs1 rs2 imm) h = branch-leaves (is_taken op (reg rs rs1) (reg rs rs2)) rs pc (plus_int pc imm)
+    instr-leaves (Load op rd rs1 imm) h = load-leaves _ _ _ _ _ _ _ _
+    instr-leaves (Store op zero rs2 imm) h = store-leaves _ _ (plus_int 0 imm) (store_width op) (reg rs rs2) h
+    instr-leaves (Store op (suc n) rs2 imm) h = absurd (no h)
+      where
+        no : true ≡ false → ⊥
+        no e = cc
+    instr-leaves (OpImm op rd rs1 imm) h = same
+    instr-leaves (OpImmW op rd rs1 imm) h = same
+    instr-leaves (Op op rd rs1 rs2) h = same
+    instr-leaves (OpW op rd rs1 rs2) h = same
+    instr-leaves (Fence word) h = same
+    instr-leaves Ecall h = same
+    instr-leaves Ebreak h = same
+    instr-leaves Hgate h = same
+    instr-leaves Hleave h = same
+    instr-leaves (Hsite rd) h = same
+    instr-leaves (Hkey rd) h = same
+    instr-leaves Hstop h = same
+    instr-leaves Hrestart h = same
+    instr-leaves (Hcall unhinted) h = calls-leave_link w x r unhinted (shadow_plan w r)
+    instr-leaves (Hpark cause) h = same
+    instr-leaves Illegal h = same
+
+  -- an arrival is counted
+  counted : (b : Bool) (next : Run) → LeavesLink r.shared next.shared → LeavesLink r.shared (word_counted (arrived_if b next)).shared
+  counted true next h = h
+  counted false next h = h
+
+  -- the word at the pc
+  word-leaves : (o : Option Instr) (i : Instr) → o ≡ Some i → stores_out i ≡ false → LeavesLink r.shared (word_counted (shadow_at_word w x r o)).shared
+  word-leaves None i e h = same
+  word-leaves (Some j) i e h =
+      let is : i ≡ j = cc in
+      let next : Run = shadow_after w x r (effect Shadow (shadow_rights w.image.layout) (shadow_sees w.image.layout (rewritten_words w) r.own.memory r.shared r.shadow_page) r.shadow.registers r.shadow.pc j) in
+      counted (is_running next.shadow.state && is_arrival w.image.layout next.shadow.pc) next (instr-leaves _ _ _ j (subst (λ (i : Instr). stores_out i ≡ false) is h))
+
+  -- in each state
+  state-leaves : (s : ShadowState) (i : Instr) → fetch_shadow w r.shadow.pc ≡ Some i → stores_out i ≡ false → LeavesLink r.shared (shadow_in s w x r).shared
+  state-leaves Running i e h = word-leaves (fetch_shadow w r.shadow.pc) i e h
+  state-leaves Never i e h = same
+  state-leaves Stopped i e h = same
+  state-leaves (Parked cause) i e h = same
+
+pub words-leave_link : WordsLeaveLink
+words-leave_link w x r i e h = state-leaves w x r r.shadow.state i e h
