@@ -11,13 +11,13 @@ use Rattle.spec_base.specs.declared.note.Move.TheVariants.{O, S, T, D}
 use Rattle.spec_base.specs.declared.spot.BlockSpot.{BlockSpot}
 use Rattle.spec_base.specs.declared.spot.ReadSpot.{ReadSpot}
 use Rattle.rv_decode.specs.declared.instr.Instr.{Instr}
-use Rattle.rv_model.specs.Memory.{Memory}
+use Rattle.rv_model.specs.Memory.{Memory, stored}
 use Rattle.rv_model.specs.Rights.{data_rights}
 use Rattle.rv_model.specs.Registers.{reg}
 use Rattle.rv_model.specs.Effect.{Effect, Next, Stored, Trapped, Called, Gated, effect, fetched}
 use Rattle.program_model.specs.Calls.{CallPlan, Set, Look, Read, Write, Exit, key_of}
 use Rattle.program_model.specs.Cache.{Gathered, gather, blocks_of, in_flight}
-use Rattle.program_model.specs.PlainRun.{State, text_of, performed}
+use Rattle.program_model.specs.PlainRun.{State, text_of, performed, plan_of}
 use Rattle.code_model.specs.Log.{log_head, log_tail}
 use Rattle.code_model.specs.Patch.{patched_instr}
 use Rattle.run_model.specs.Run.{World, Run, RunEnd, Answer, Usual, Took, Failed, Lost}
@@ -25,18 +25,18 @@ use Rattle.run_model.specs.OwnMoves.{program_after, program_at, program_step, ow
 use Rattle.run_model.specs.ShadowMoves.{shadow_in, shadow_step}
 use Rattle.run_model.specs.Moves.{Moves, step, step_unless, begun, run, run_from, fetch_of, fetch_ends, fetch_failed, landed_with, shadow_while}
 use Rattle.run_model.specs.OwnLaws.{Accepted, IsShadowMove}
-use Rattle.own_laws.specs.StubLaws.{IsLeaving, Appends, Outcome, keyless, takes, empties, without_oldest, Passing, restarts_after, IsPassage, StubKeepsLog}
+use Rattle.own_laws.specs.StubLaws.{IsLeaving, IsLog, Appends, Outcome, keyless, takes, empties, without_oldest, Passing, restarts_after, IsPassage, TakesOldest, leaves, takes_pair, is_halted, StubKeepsLog, StubTakesOldest}
 use Rattle.code_model.proofs.Alike.{gated, effect-patched, fetched-map}
 use Rattle.own_laws.proofs.InvisibleShadow.{shadow_move-keeps}
 use Rattle.own_laws.proofs.LogChanges.{Appends-again, Appends-same}
-use Rattle.own_laws.proofs.LogRows.{Phase, fresh, keyed, headed, judging, found, matching, oldest, settled, missed, halted, headless, emptied, boxing, is_asked, Fact, LogRow, r1, r71, Onward, to_row, to_restarted, to_call, log_word_goes}
+use Rattle.own_laws.proofs.LogRows.{Phase, fresh, keyed, headed, judging, found, matching, oldest, settled, missed, halted, headless, emptied, boxing, is_asked, Fact, LogRow, r1, r2, r3, r4, r5, r6, r7, r8, r9, r10, r11, r12, r13, r14, r15, r16, r17, r18, r19, r20, r21, r22, r23, r24, r25, r28, r29, r30, r31, r32, r33, r34, r35, r36, r37-66, r67, r68, r69, r70, r71, Onward, to_row, to_restarted, to_call, log_word_goes}
 use Rattle.own_laws.proofs.OneCall.{program_stub}
 use Rattle.own_laws.proofs.OwnLaws.{own_side}
 use Rattle.own_laws.proofs.OwnSide.{OwnSide, in_program, in_stub, at_call, waits, called, over, plan, program_side, called_side, placed}
 use Rattle.own_laws.proofs.Reached.{Reached, reached-fits, none_some, false_true, reached-key}
 use Rattle.own_laws.proofs.Side.{Side, side_of, with_side, Tally, Kept}
 use Rattle.own_laws.proofs.Text.{place-small}
-use Rattle.own_laws.proofs.StubWords.{three, three-own, stub_side, restarted_tally}
+use Rattle.own_laws.proofs.StubWords.{three, three-own, stub_side, restarted_tally, after_word, word_1, word_2, word_3, word_4, word_5, word_6, word_7, word_8, word_9, word_10, word_11, word_12, word_13, word_14, word_15, word_16, word_17, word_18, word_19, word_20, word_21, word_22, word_23, word_24, word_25, word_28, word_71}
 
 -- ---- the gate
 
@@ -351,6 +351,149 @@ module _ (w : World) (q : State) (fits : (i : ℕ) → q.registers i < 2 ^ 64) (
         log = subst (λ q. Outcome q (key_of (plan w q)) (reg q.registers 12) gate.shared leave.asked leave.shared) (sym g)
             (subst (λ m. Outcome q key count m leave.asked leave.shared) (sym m) (subst (λ asked. Outcome q key count before asked leave.shared) (sym was_asked) o));
       }
+
+-- ---- what an own move takes
+
+-- a call leaves what is shared
+look-shares : (w : World) (x : Answer) (r : Run) (name : List ℕ) → (look_done w x r name).shared ≡ r.shared
+look-shares w Failed r name = refl
+look-shares w Usual r name = refl
+look-shares w (Took k) r name = refl
+look-shares w Lost r name = refl
+
+read-shares : (b : Bool) (w : World) (d : ℕ) (spot : ReadSpot) (a : ℕ) (g : Gathered) (r : Run) → (read_on b w d spot a g r).shared ≡ r.shared
+read-shares true w d spot a g r = refl
+read-shares false w d spot a g r = refl
+
+put-shares : (w : World) (k : ℕ) (to_out : Bool) (a n : ℕ) (r : Run) → (write_done w k to_out a n r).shared ≡ r.shared
+put-shares w k true a n r = refl
+put-shares w k false a n r = refl
+
+write-shares : (w : World) (x : Answer) (r : Run) (to_out : Bool) (a n : ℕ) → (write_step w x r to_out a n).shared ≡ r.shared
+write-shares w Failed r to_out a n = refl
+write-shares w Usual r to_out a n = put-shares w (taken_in Usual n) to_out a n r
+write-shares w (Took k) r to_out a n = put-shares w (taken_in (Took k) n) to_out a n r
+write-shares w Lost r to_out a n = put-shares w (taken_in Lost n) to_out a n r
+
+call-shares : (w : World) (x : Answer) (r : Run) (c : CallPlan) → (own_call_step w x r c).shared ≡ r.shared
+call-shares w x r (Set f answer) = refl
+call-shares w x r (Look name) = look-shares w x r name
+call-shares w x r (Read d spot a) = let g : Gathered = gather r.cache r.gathered (drop r.gathered (blocks_of spot)) in read-shares g.waits w d spot a g r
+call-shares w x r (Write to_out a n) = write-shares w x r to_out a n
+call-shares w x r (Exit code) = refl
+
+module _ (w : World) (x : Answer) (q : State) (t : Tally) (before : Memory) where
+  abbrev the_key : ℕ
+  the_key = key_of (plan_of w.image.layout q)
+
+  -- a word that leads to a run with the same memory
+  shares : {r next new : Run} → next ≡ new → new.shared ≡ r.shared → TakesOldest r next
+  shares e f = leaves (ap (λ (r : Run). r.shared) e ∙ f)
+
+  -- each word of the stub: word 22 takes the pair that was judged, which is still the oldest
+  word-takes : (r : Run) (p : Phase) (k a b c : ℕ) (page : Memory) → LogRow q the_key p k a b c page → Fact q the_key (q.registers 12) before p r.shared r.shadow.state → TakesOldest r (after_word w x q t r k a b c page)
+  word-takes r _ _ a b c page r1 f = shares (word_1 w x q t r _ _ _ page) refl
+  word-takes r _ _ a b c page (r2 s) f = shares (word_2 w x q t r _ _ _ page) refl
+  word-takes r _ _ a b c page (r3 s) f = shares (word_3 w x q t r _ _ the_key page) refl
+  word-takes r _ _ a b c page (r4 s) f = shares (word_4 w x q t r _ _ the_key page) refl
+  word-takes r _ _ a b c page (r5 s) f = shares (word_5 w x q t r _ _ the_key page) refl
+  word-takes r _ _ a b c page (r6 s) f = shares (word_6 w x q t r a b the_key page) refl
+  word-takes r _ _ a b c page (r7 s v) f = shares (word_7 w x q t r a b c page) refl
+  word-takes r _ _ a b c page (r8 s v) f = shares (word_8 w x q t r a 0 c page) refl
+  word-takes r _ _ a b c page (r9 s v) f = shares (word_9 w x q t r a 0 c page) refl
+  word-takes r (judging log) _ a b c page (r10 s v) f = shares (word_10 w x q t r _ _ _ page) refl
+  word-takes r (found log) _ a b c page (r11 s v) f = shares (word_11 w x q t r _ _ c page) refl
+  word-takes r (found log) _ a b c page (r12 s v) f = shares (word_12 w x q t r _ _ _ page) refl
+  word-takes r (found log) _ a b c page (r13 s v) f = shares (word_13 w x q t r _ _ _ page) refl
+  word-takes r (found log) _ a b c page (r14 s v l) f = shares (word_14 w x q t r a b c page l.in_log) refl
+  word-takes r (found log) _ a b c page (r15 s v l) f = shares (word_15 w x q t r _ b c page) refl
+  word-takes r (found log) _ a b c page (r16 s l) f = shares (word_16 w x q t r _ the_key c page) refl
+  word-takes r (matching log) _ a b c page (r17 s l) f = shares (word_17 w x q t r a b c page l.in_log) refl
+  word-takes r (matching log) _ a b c page (r18 s) f = shares (word_18 w x q t r _ b c page) refl
+  word-takes r (oldest log) _ a b c page (r19 s) f = shares (word_19 w x q t r a b c page) refl
+  word-takes r (oldest log) _ a b c page (r20 s) f = shares (word_20 w x q t r a 0 c page) refl
+  word-takes r (oldest log) _ a b c page (r21 s) f = shares (word_21 w x q t r _ _ c page) refl
+  word-takes r (oldest log) _ a b c page (r22 s) (j, f, o) =
+      takes_pair (omega (arith, o.some, f.head, f.tail))
+      (ap (λ (r : Run). r.shared) (word_22 w x q t r (log_head log + 1) 0 c page) ∙ ap (λ (n : ℕ). stored r.shared 0x4200_0000 8 (n + 1)) (sym f.head))
+  word-takes r _ _ a b c page (r23 s) f = shares (word_23 w x q t r a b c page) refl
+  word-takes r _ _ a b c page (r24 s) f = shares (word_24 w x q t r _ b c page) refl
+  word-takes r (settled asked) _ a b c page (r25 s) f = shares (word_25 w x q t r _ _ c page) refl
+  word-takes r (missed log) _ a b c page (r28 s) f = shares (word_28 w x q t r a b c page) refl
+  word-takes r (halted log) _ a b c page (r29 s) (f, h) = is_halted h
+  word-takes r (halted log) _ a b c page (r30 s) (f, h) = is_halted h
+  word-takes r (headless log) _ a b c page (r31 s) (f, h, e) = is_halted h
+  word-takes r (emptied log) _ a b c page (r32 s) (f, h, e) = is_halted h
+  word-takes r (emptied log) _ a b c page (r33 s) (f, h, e) = is_halted h
+  word-takes r (emptied log) _ a b c page (r34 s) (f, h, e) = is_halted h
+  word-takes r (boxing log _) _ a b c page (r35 s) (f, h, e, b') = is_halted h
+  word-takes r (boxing log _) _ a b c page (r36 s) (f, h, e, b') = is_halted h
+  word-takes r (boxing log _) _ a b c page (r37-66 j i s) (f, h, e, b') = is_halted h
+  word-takes r (boxing log _) _ a b c page (r67 s) (f, h, e, b') = is_halted h
+  word-takes r (boxing log _) _ a b c page (r68 s) (f, h, e, b') = is_halted h
+  word-takes r (boxing log _) _ a b c page (r69 s) (f, h, e, b') = is_halted h
+  word-takes r (boxing log _) _ a b c page (r70 s) (f, h, e, b') = is_halted h
+  word-takes r _ _ a b c page (r71 s) f = shares (word_71 w x q t r _ _ c page) refl
+
+-- what is said of a run speaks of no more than the memory and the shadow's state
+beside-takes : (r : Run) (side : Side) (next : Run) → TakesOldest r next → TakesOldest (with_side r side) next
+beside-takes r side next (leaves e) = leaves e
+beside-takes r side next (takes_pair l e) = takes_pair l e
+beside-takes r side next (is_halted e) = is_halted e
+
+module _ (w : World) (q : State) (before : Memory) (done restarts : ℕ) where
+  abbrev Passed : Run → Type 0
+  Passed r = Passage w q (key_of (plan w q)) (q.registers 12) before done restarts r
+
+  -- each own move
+  own-takes : (x : Answer) (r : Run) → r.end ≡ None → Passed r → TakesOldest r (own_step w x r)
+  own-takes x r z (at_word t p k a b c page row f u n is) =
+      placed w (λ (r : Run). Fact q (key_of (plan w q)) (q.registers 12) before p r.shared r.shadow.state → TakesOldest r (own_step w x r)) r _ is
+      (λ f. beside-takes r (stub_side q t k (three q.registers a b c) page) _ (word-takes w x q t before r p k a b c page row f)) f
+  own-takes x r z (on_call t asked true page o n is) = placed w (λ (r : Run). TakesOldest r (own_step w x r)) r _ is (leaves refl)
+  own-takes x r z (on_call t asked false page o n is) =
+      placed w (λ (r : Run). TakesOldest r (own_step w x r)) r _ is (leaves (call-shares w x (with_side r (stub_side q t 26 q.registers page)) (plan w q)))
+  own-takes x r z (behind t asked s page o n is) = placed w (λ (r : Run). TakesOldest r (own_step w x r)) r _ is (leaves refl)
+  own-takes x r z (ended e) = false_true (ap is_some (sym z) ∙ e)
+
+  -- so does a step
+  step-takes : (x : Answer) (r : Run) (e : Option RunEnd) → r.end ≡ e → Passed r → TakesOldest r (step_unless e w r (O, x))
+  step-takes x r (Some e) z h = leaves refl
+  step-takes x r None z h = from_begun (own-takes x (begun r) z (begun-passes h))
+    where
+      from_begun : TakesOldest (begun r) (own_step w x (begun r)) → TakesOldest r (own_step w x (begun r))
+      from_begun (leaves e) = leaves e
+      from_begun (takes_pair l e) = takes_pair l e
+      from_begun (is_halted e) = is_halted e
+
+      begun-passes : Passed r → Passed (begun r)
+      begun-passes (at_word t p k a b c page row f u n is) = at_word t p k a b c page row f u n is
+      begun-passes (on_call t asked stalled page o n is) = on_call t asked stalled page o n is
+      begun-passes (behind t asked s page o n is) = behind t asked s page o n is
+      begun-passes (ended e) = ended e
+
+-- behind a gate the call is in passage
+passes_on : (w : World) → Accepted w → (ms : Moves) (x : Answer) (on : Moves) → let program = run w ms in let gate = step w program (O, x) in
+    program.view ≡ Program → IsLog program.shared → Passing w gate on → Passage w program.own (key_of (plan w program.own)) (program.own.registers 12) gate.shared gate.own_done gate.restarts (run_from w gate on)
+passes_on w a ms x on p log passing =
+    let program : Run = run w ms in
+    let gate : Run = step w program (O, x) in
+    let y : Entered w program gate = step-enters w a x program program.end refl (own_side w a ms) p (passing-view w on gate passing) in
+    let q : State = program.own in
+    let order' : log_head gate.shared ≤ log_tail gate.shared = subst (λ m. log_head m ≤ log_tail m) (sym y.shared) log.order in
+    let below' : log_tail gate.shared < 2 ^ 64 = subst (λ m. log_tail m < 2 ^ 64) (sym y.shared) log.below in
+    let start : Passage w q (key_of (plan w q)) (q.registers 12) gate.shared gate.own_done gate.restarts gate =
+    at_word y.tally fresh 1 _ _ _ y.page r1 (Appends-same gate.shared below') refl
+    (record { done = sym (ap (λ p. p.tally.done) y.side); restarts = sym (ap (λ p. p.tally.restarts) y.side); asked = y.asked })
+    (y.side ∙ ap (λ rs. stub_side q y.tally 1 rs y.page) (sym (three-own q.registers))) in
+    run-passes w q y.fits y.place y.key gate.shared order' gate.own_done gate.restarts on gate start passing
+
+-- each own move behind it leaves what is shared, takes the oldest pair, or finds the shadow stopped
+pub stub_takes_oldest : StubTakesOldest
+stub_takes_oldest w a ms x on y p log passing =
+    let program : Run = run w ms in
+    let gate : Run = step w program (O, x) in
+    let r : Run = run_from w gate on in step-takes w program.own gate.shared gate.own_done gate.restarts y r r.end refl (passes_on w a ms x on p log passing)
 
 -- what a passage does to the log
 pub stub_keeps_log : StubKeepsLog

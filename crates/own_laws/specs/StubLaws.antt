@@ -100,6 +100,19 @@ StubKeepsLog =
     let program = run w ms in let gate = step w program (O, x) in let leave = run_from w gate on in
     program.view ≡ Program → IsLog program.shared → Passing w gate on → IsLeaving leave → IsPassage w gate leave
 
+-- an own move leaves what is shared, takes the oldest pair of a log that has one, or finds the shadow stopped
+pub data TakesOldest (r next : Run) : Type 0 where
+  leaves : next.shared ≡ r.shared → TakesOldest r next
+  takes_pair : log_head r.shared < log_tail r.shared → next.shared ≡ without_oldest r.shared → TakesOldest r next
+  is_halted : r.shadow.state ≡ Stopped → TakesOldest r next
+
+-- so does each own move behind a gate, while the own hart stays in the stub
+abbrev pub StubTakesOldest : Type 0
+StubTakesOldest =
+    (w : World) → Accepted w → (ms : Moves) (x : Answer) (on : Moves) (y : Answer) →
+    let program = run w ms in let gate = step w program (O, x) in let r = run_from w gate on in
+    program.view ≡ Program → IsLog program.shared → Passing w gate on → TakesOldest r (step w r (O, y))
+
 -- ---- the link and the restart, whatever moves come between
 
 -- while the shadow isn't stopped, an own move changes no more of what they share than the log's head

@@ -17,18 +17,20 @@ pub fn preserved()
     ensures own_follows { OwnFollows }
 {}
 
-ghost use Rattle.own_laws.specs.StubLaws.{StubIsOneCall, StubKeepsLog, StubStopsFirst, RestartHasBox};
+ghost use Rattle.own_laws.specs.StubLaws.{StubIsOneCall, StubKeepsLog, StubTakesOldest, StubStopsFirst, RestartHasBox};
 
 /// Behind the stub's call the own hart has done the call that it met at its gate, and nothing else:
 /// all registers but x10 are those at the gate. A call without key leaves the hint log; a keyed one
 /// takes the oldest pair where that is the call's, and else empties the log, saves site and registers
 /// in the box, and restarts the shadow once before it. Other moves may come between, where the
-/// shadow's only append to the log. Whatever the shadow does, an own move changes no more of what they
-/// share than the log's head before it has stopped the shadow, and a restart finds the shadow stopped,
-/// the log empty, and site and registers in the box.
+/// shadow's only append to the log; then each own move leaves the log, takes its oldest pair, or finds
+/// the shadow stopped. Whatever the shadow does, an own move changes no more of what they share than
+/// the log's head before it has stopped the shadow, and a restart finds the shadow stopped, the log
+/// empty, and site and registers in the box.
 pub fn stub_is_one_call()
     ensures one_call { StubIsOneCall }
     ensures log { StubKeepsLog }
+    ensures takes { StubTakesOldest }
     ensures stops_first { StubStopsFirst }
     ensures restart { RestartHasBox }
 {}
