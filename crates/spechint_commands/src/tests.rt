@@ -143,10 +143,12 @@ fn command(
     stops: &[u64],
 ) -> Result<Told, Fail> {
     let mut store = MemStore::new(alloc, fails.to_vec(alloc)?);
-    if file.len() != 4096 {
+    if file.len() < 1_000_000 && file.len() != 4096 {
         store.add(Name::new(b"w1").ok_or("name")?, file)?;
     }
-    store.add(Name::new(b"data").ok_or("name")?, data)?;
+    if data.len() < 1_000_000 {
+        store.add(Name::new(b"data").ok_or("name")?, data)?;
+    }
     let mut out = MemSink::new(alloc, 20_000, stops.to_vec(alloc)?, Vec::new(alloc))?;
     let mut err = MemSink::new(alloc, 200, Vec::new(alloc), Vec::new(alloc))?;
     let mut given = Vec::new(alloc);
