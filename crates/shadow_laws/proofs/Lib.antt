@@ -1,0 +1,10 @@
+pub mod ShadowNumbers
+pub mod AnyCalls
+pub mod TextBlocks
+pub mod OwnShades
+pub mod Sound
+pub mod SoundSteps
+pub mod ShadowRuns
+pub mod HeadSteps
+pub mod LinkSteps
+pub mod LoggedSteps
