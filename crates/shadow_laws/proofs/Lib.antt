@@ -5,6 +5,7 @@ pub mod OwnShades
 pub mod Sound
 pub mod SoundSteps
 pub mod ShadowRuns
-pub mod HeadSteps
 pub mod LinkSteps
 pub mod LoggedSteps
+pub mod LogMoves
+pub mod LogRuns

@@ -43,7 +43,8 @@ use Rattle.rows_log.proofs.LinkLeft.{helpers-store_not, words-leave_link}
 use Rattle.rows_log.proofs.RestartWords.{restart_leads, restarted_leads}
 use Rattle.shadow_laws.proofs.ShadowNumbers.{Sized, stock_of}
 use Rattle.shadow_laws.proofs.Sound.{CallRows, bare, PadAt, at_pad, unknown, At, Sound, computing, quartering, branching, linking, going, jumping, padded, parking, guarded, loading, storing, calling, restarting, unboxing}
-use Rattle.shadow_laws.proofs.SoundSteps.{landed}
+use Rattle.shadow_laws.proofs.SoundSteps.{landed, pad-leads}
+use Rattle.side_model.proofs.JumpWords.{jump_leads}
 
 -- ---- words that aren't stores
 
@@ -229,8 +230,8 @@ module _ (w : World) (a : Accepted w) (x : Answer) (r : Run) (z : Sized (stock_o
   link-steps {n = n} keeps calls (going p rd rs1 imm q is at) =
       stored-by keeps at (jalr_leads l p rd rs1 imm q program is n at.point.place at.point.regs at.point.priv at.point.tabs r.shared at.ok at.row) (λ i e b s k row. keeps (kept row.1.memory)) (λ to s y. keeps (kept y.1.memory))
   link-steps {n = n} keeps calls (jumping to q base words fits at) =
-      quiet keeps at (Rattle.side_model.proofs.JumpWords.jump_leads l to q base words program fits n at.point.place at.point.regs at.point.priv at.point.tabs r.shared at.ok at.row) (jump-quiet fits at.row)
-  link-steps {n = n} keeps calls (padded p words b f at) = quiet keeps at (Rattle.shadow_laws.proofs.SoundSteps.pad-leads w a x r z p n words b f r.shared at.ok at.row) (pad-quiet l words f at.row)
+      quiet keeps at (jump_leads l to q base words program fits n at.point.place at.point.regs at.point.priv at.point.tabs r.shared at.ok at.row) (jump-quiet fits at.row)
+  link-steps {n = n} keeps calls (padded p words b f at) = quiet keeps at (pad-leads w a x r z p n words b f r.shared at.ok at.row) (pad-quiet l words f at.row)
   link-steps {n = n} keeps calls (parking p i q is c at) =
       stored-by keeps at (park_leads l p i q program is c n at.point.place at.point.regs at.point.priv at.point.tabs r.shared at.ok at.row) (λ i e b s k row. keeps (kept row.1.memory)) (λ to s y. keeps (kept y.1.memory))
   link-steps {n = n} keeps calls (guarded q at) =

@@ -183,7 +183,7 @@ module _ (w : World) where
   program_after-shade r Called = refl
   program_after-shade r (Gated i) = refl
 
-  program_at-shade : (r : Run) (o : Option Instr) → watched_of (program_at w r o) ≡ watched_of r
+  pub program_at-shade : (r : Run) (o : Option Instr) → watched_of (program_at w r o) ≡ watched_of r
   program_at-shade r None = refl
   program_at-shade r (Some i) = program_after-shade r (effect Program (data_rights w.image.layout) r.own.memory r.own.registers r.own.pc i)
 

@@ -24,7 +24,7 @@ use Rattle.program_model.specs.Calls.{CallPlan, Set, Look, Read, Write, Exit}
 use Rattle.program_model.specs.PlainRun.{State, text_of, all_taken, at_word}
 use Rattle.program_model.specs.PlainRun as plain
 use Rattle.code_model.specs.Places.{block_at}
-use Rattle.code_model.specs.Regions.{slots_in_use, entry_of}
+use Rattle.code_model.specs.Regions.{entry_address}
 use Rattle.run_model.specs.Run.{World, Run, RunEnd, Answer, Usual, Took, Failed, Lost, opened_run, rewritten_words}
 use Rattle.run_model.specs.OwnMoves.{own_step}
 use Rattle.run_model.specs.ShadowMoves.{fetch_shadow, is_running, is_arrival, arrived_if, word_counted, shadow_plan, assumed, look_assumed, hint_given, fill_if, is_filled, shadow_gate, shadow_stores, shadow_after, shadow_at_word, shadow_in, shadow_step}
@@ -37,7 +37,7 @@ use Rattle.own_laws.proofs.OneCall.{program_stub}
 use Rattle.own_laws.proofs.OwnLaws.{own_side}
 use Rattle.own_laws.proofs.OwnSide.{OwnSide, in_program, in_stub, at_call, waits, called, over, AtCall, placed}
 use Rattle.own_laws.proofs.Reached.{none_some, false_true}
-use Rattle.own_laws.proofs.Side.{side_of}
+use Rattle.own_laws.proofs.Side.{side_of, Tally}
 use Rattle.side_model.specs.Places.{InHelper, Restarting, HasBlock}
 use Rattle.side_model.specs.Sees.{shade_of}
 use Rattle.side_model.specs.Tables.{Tabs, HasTabs, TableOk}
@@ -60,6 +60,9 @@ use Rattle.code_model.specs.Blocks.{block}
 use Rattle.rv_model.specs.Space.{program_byte}
 use Rattle.rv_decode.specs.declared.instr.Instr.TheVariants.{Ecall}
 use Rattle.shadow_laws.proofs.TextBlocks.{text}
+use Rattle.spec_base.specs.declared.park.Park.{Park}
+use Rattle.rv_decode.specs.Instruction.{instr_of}
+use Rattle.spec_base.specs.declared.machine.Trap.{Trap}
 
 -- ---- what a word counts
 
@@ -140,10 +143,10 @@ arrived-counted w r y false e f =
 word-counted : (w : World) (x : Answer) (r : Run) (o : Option Instr) → Counted w r (word_counted (shadow_at_word w x r o))
 word-counted w x r None = record { words = refl; regions = refl; most = omega arith; arrives = λ s h. never s }
   where
-    never : {A : Type 0} {cause : Rattle.spec_base.specs.declared.park.Park.Park} → Parked cause ≡ Running → A
+    never : {A : Type 0} {cause : Park} → Parked cause ≡ Running → A
     never {A} e = absurd (no e)
       where
-        no : {cause : Rattle.spec_base.specs.declared.park.Park.Park} → Parked cause ≡ Running → ⊥
+        no : {cause : Park} → Parked cause ≡ Running → ⊥
         no e = cc
 word-counted w x r (Some i) =
     let e : Effect = effect Shadow (shadow_rights w.image.layout) (shadow_sees w.image.layout (rewritten_words w) r.own.memory r.shared r.shadow_page) r.shadow.registers r.shadow.pc i in
@@ -164,10 +167,10 @@ pub data Kept (w : World) (s : Watched) : Type 0 where
   rests : (t : Tabs) → HasTabs w.image.layout s.shade.shared t → TableOk w.image.layout t → s.shade.hart.state ≢ Running → s.words ≤ 64 + 5 * s.regions + 228 * s.arrivals → Kept w s
 
 -- the states are different
-parked_running : {A : Type 0} {cause : Rattle.spec_base.specs.declared.park.Park.Park} → Parked cause ≡ Running → A
+parked_running : {A : Type 0} {cause : Park} → Parked cause ≡ Running → A
 parked_running {A} e = absurd (no e)
   where
-    no : {cause : Rattle.spec_base.specs.declared.park.Park.Park} → Parked cause ≡ Running → ⊥
+    no : {cause : Park} → Parked cause ≡ Running → ⊥
     no e = cc
 
 stopped_running : Stopped ≡ Running → ⊥
@@ -177,13 +180,13 @@ never_running : Never ≡ Running → ⊥
 never_running e = cc
 
 -- consistent tables are all that a stopped shadow needs
-record HasTables (w : World) (s : Watched) : Type 0 where
-  tables : Tabs
-  has : HasTabs w.image.layout s.shade.shared tables
-  ok : TableOk w.image.layout tables
-  few : s.words ≤ 64 + 5 * s.regions + 228 * s.arrivals
+pub record HasTables (w : World) (s : Watched) : Type 0 where
+  pub tables : Tabs
+  pub has : HasTabs w.image.layout s.shade.shared tables
+  pub ok : TableOk w.image.layout tables
+  pub few : s.words ≤ 64 + 5 * s.regions + 228 * s.arrivals
 
-has-tables : (w : World) (s : Watched) → Kept w s → HasTables w s
+pub has-tables : (w : World) (s : Watched) → Kept w s → HasTables w s
 has-tables w s (runs n h few) = let y : Standing w s.shade = stands w h in record { tables = y.tables; has = y.has; ok = y.ok; few = omega (arith, few) }
 has-tables w s (rests t has ok still few) = record { tables = t; has = has; ok = ok; few = few }
 
@@ -226,7 +229,7 @@ module _ (w : World) (a : Accepted w) where
       by_landing c (landing.halts cause state t has ok) = rests t has ok (λ e. parked_running (sym state ∙ e)) (omega (arith, c.words, c.regions, c.most, few))
 
   -- a shadow that doesn't run does nothing
-  resting-stays : (x : Answer) (r : Run) (s : ShadowState) → r.shadow.state ≡ s → r.shadow.state ≢ Running → shadow_in s w x r ≡ r
+  pub resting-stays : (x : Answer) (r : Run) (s : ShadowState) → r.shadow.state ≡ s → r.shadow.state ≢ Running → shadow_in s w x r ≡ r
   resting-stays x r Running e n = absurd (n e)
   resting-stays x r Never e n = refl
   resting-stays x r Stopped e n = refl
@@ -252,21 +255,21 @@ module _ (w : World) (a : Accepted w) where
           let whole : q.pc % 4 ≡ 0 = grind (arith, nat_tests, f) in
           let f : TextFits l = text w a in
           let inside : (q.pc - l.text_start) / 4 < length (text_of w.image) = slice_get_within (text_of w.image) ((q.pc - l.text_start) / 4) i e in
-          record { lawful = a.lawful; above = above; below = omega (arith, inside, length-map w.image.words Rattle.rv_decode.specs.Instruction.instr_of, a.text, above, whole, f.start); whole = whole }
+          record { lawful = a.lawful; above = above; below = omega (arith, inside, length-map w.image.words instr_of, a.text, above, whole, f.start); whole = whole }
       by_test false f e = none_some e
 
-  at-call : (t : Rattle.own_laws.proofs.Side.Tally) (q : State) → AtCall w t q → IsSite l q.pc
+  at-call : (t : Tally) (q : State) → AtCall w t q → IsSite l q.pc
   at-call t q g = by_word (fetched (text_of w.image) l.text_start q.pc) refl
     where
       by_word : (o : Option Instr) → fetched (text_of w.image) l.text_start q.pc ≡ o → IsSite l q.pc
       by_word (Some i) e = call-site q i e
       by_word None e = absurd (no (sym (ap (at_word w.image w.files all_taken q) e) ∙ g.calls all_taken))
         where
-          no : {s : State} {cause : Rattle.spec_base.specs.declared.machine.Trap.Trap} → plain.Traps cause ≡ plain.Went s → ⊥
+          no : {s : State} {cause : Trap} → plain.Traps cause ≡ plain.Went s → ⊥
           no e = cc
 
   -- a restart is made for a call
-  gate-site : (x : Answer) (r : Run) → r.end ≡ None → OwnSide w (side_of r) → r.view ≡ Stub → (own_step w x r).restarts ≢ r.restarts → IsSite l r.at_gate.pc
+  pub gate-site : (x : Answer) (r : Run) → r.end ≡ None → OwnSide w (side_of r) → r.view ≡ Stub → (own_step w x r).restarts ≢ r.restarts → IsSite l r.at_gate.pc
   gate-site x r z (in_program t site gate s page h f is) v n = program_stub (sym (ap (λ p. p.view) is) ∙ v)
   gate-site x r z (in_stub t q k b c d page g row most is) v n = subst (λ (s : State). IsSite l s.pc) (sym (ap (λ p. p.gate) is)) (at-call t q g)
   gate-site x r z (at_call t q page g is) v n = subst (λ (s : State). IsSite l s.pc) (sym (ap (λ p. p.gate) is)) (at-call t q g)
@@ -275,25 +278,26 @@ module _ (w : World) (a : Accepted w) where
   gate-site x r z (over s e h o) v n = none_some (sym z ∙ o.ended)
 
   -- a shadow that is restarted stands at the first word of RESTART
-  restarted-stands : (r next : Run) → HasTables w (watched_of r) → IsSite l r.at_gate.pc → RestartsFromBox r next → watched_of next ≡ begun_anew r → Kept w (watched_of next)
-  restarted-stands r next y is box e =
+  pub restart-sound : (C : CallRows) (r next : Run) (t : Tabs) → HasTabs l r.shared t → TableOk l t → IsSite l r.at_gate.pc → RestartsFromBox r next → Sound w C (begun_anew r).shade (63 + 5 * t.count)
+  restart-sound C r next t has ok is box =
       let site : ℕ = r.at_gate.pc in
       let q = regs_of r.at_gate.registers in
       let small : site + 4 < 2 ^ 64 = let f : TextFits l = text w a in omega (arith, is.below, f.below) in
       let target : Target w (site + 4) q = target-of w a (site + 4) q small in
       let has-box : HasBox r.shared site q =
       subst (λ m. HasBox m site q) box.left (record { holds = box.boxed.site; registers = λ i h. box.boxed.registers i h ∙ (HasRegs-of r.at_gate.registers).at i }) in
-      let n : ℕ = 63 + 5 * y.tables.count in
-      let begin : Sound w (any_calls w) (begun_anew r).shade n =
       restarting site q target.base target.words is target.fits
       (record {
         code = target.code;
-        point = record { place = InHelper Restarting 0; regs = regs_of r.shadow.registers; priv = priv_of r.shadow_page; tabs = y.tables };
-        shown = record { pc = refl; regs = HasRegs-of r.shadow.registers; priv = HasPriv-of r.shadow_page; tabs = y.has; shared = refl; running = refl };
-        ok = y.ok;
-        row = (restart_starts l site q (regs_of r.shadow.registers) (priv_of r.shadow_page) y.tables, has-box);
-      }) in
-      subst (λ s. Kept w s) (sym e) (runs n begin (omega (arith, y.has.count)))
+        point = record { place = InHelper Restarting 0; regs = regs_of r.shadow.registers; priv = priv_of r.shadow_page; tabs = t };
+        shown = record { pc = refl; regs = HasRegs-of r.shadow.registers; priv = HasPriv-of r.shadow_page; tabs = has; shared = refl; running = refl };
+        ok = ok;
+        row = (restart_starts l site q (regs_of r.shadow.registers) (priv_of r.shadow_page) t, has-box);
+      })
+
+  restarted-stands : (r next : Run) → HasTables w (watched_of r) → IsSite l r.at_gate.pc → RestartsFromBox r next → watched_of next ≡ begun_anew r → Kept w (watched_of next)
+  restarted-stands r next y is box e =
+      subst (λ s. Kept w s) (sym e) (runs (63 + 5 * y.tables.count) (restart-sound (any_calls w) r next y.tables y.has y.ok is box) (omega (arith, y.has.count)))
 
   -- the shadow runs on while the own hart takes pairs
   runs-on : (r next : Run) (n : ℕ) → Sound w (any_calls w) (shade_of r) n → r.since.words + n ≤ 63 + 5 * r.since.regions + 228 * r.since.shadow → LeavesLink r next → (m : Memory) → watched_of next ≡ with_shared r m → Kept w (watched_of next)
@@ -347,7 +351,7 @@ module _ (w : World) (a : Accepted w) where
       by_end None z D f = subst (λ s. Kept w s) (sym (fetch-shade w (in_flight r.cache) x (begun r))) k
 
   -- one move more
-  run-snoc : (r : Run) (ms : Moves) (m : Move × Answer) → run_from w r (ms ++ m ∷ []) ≡ step w (run_from w r ms) m
+  pub run-snoc : (r : Run) (ms : Moves) (m : Move × Answer) → run_from w r (ms ++ m ∷ []) ≡ step w (run_from w r ms) m
   unfolding run_from
   run-snoc r [] m = refl
   run-snoc r (n ∷ ms) m = run-snoc (step w r n) ms m
@@ -367,13 +371,13 @@ module _ (w : World) (a : Accepted w) where
   zeros-loaded b zero = refl
   zeros-loaded b (suc n) = omega (arith, zeros-loaded (b + 1) n)
 
-  none-used : TableOk l (tabs_of zeros)
+  pub none-used : TableOk l (tabs_of zeros)
   none-used =
       let none : loaded zeros list_start 8 ≡ 0 = zeros-loaded list_start 8 in
       record {
         count = omega (arith, none);
         listed = λ slot h. absurd (omega (arith, none, h));
-        entry = λ x h some. absurd (omega (arith, zeros-loaded (Rattle.code_model.specs.Regions.entry_address x) 4, some));
+        entry = λ x h some. absurd (omega (arith, zeros-loaded (entry_address x) 4, some));
       }
 
   start-kept : Kept w (watched_of (opened_run w))

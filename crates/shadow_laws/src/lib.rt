@@ -14,3 +14,15 @@ pub fn shadow_is_bounded()
     ensures regions { RegionsBounded }
     ensures words { WordsBounded }
 {}
+
+ghost use Rattle.shadow_laws.specs.LogLaws.{LogIsQueue, ShadowAppends, LogIsKept};
+
+/// In every run of fewer than 2^64 - 1 moves, in which no tail of the hint log wraps: the log is a
+/// queue of at most 64 pairs unless the shadow is stopped; a move of the shadow only appends to it;
+/// and from the gate to the word that leaves the stub a call without key leaves it, and a keyed one
+/// takes its oldest pair where that is the call's, or else empties it before a restart.
+pub fn log_is_kept()
+    ensures queue { LogIsQueue }
+    ensures appends { ShadowAppends }
+    ensures passage { LogIsKept }
+{}
