@@ -98,7 +98,7 @@ module _ (l : Layout) (p rd rs1 : ℕ) (imm : ℤ) (q : Regs) (program : Memory)
   jalr-words m ok (r5 s) = rw (built rd (high_part (p + 4)) (word_of_int (lo (p + 4))) (p + 4) (with_31 q at) link) (on (inl (r6 s), same) ok refl refl)
   jalr-words m ok (r6 s {t}) = spills s t m ok (rd == 31) refl
   jalr-words m ok (r7 s) = on (inl (r8 s), same) ok refl refl
-  jalr-words m ok (r8 s) = leaps (InHelper Jumping 0) refl (on (inr (j1 s), same) ok refl refl)
+  jalr-words m ok (r8 s) = leaps (InHelper Jumping 0) refl (on (inr (refl, j1 s), same) ok refl refl)
 
   -- ---- JUMP
 
@@ -121,16 +121,19 @@ module _ (l : Layout) (p rd rs1 : ℕ) (imm : ℤ) (q : Regs) (program : Memory)
   abbrev jump_led : ℕ → ℕ → Out → Type 0
   jump_led base n o = Led l program base (λ place rs s t m k. JumpRow l at linked place rs s t k) (JumpArrives l at linked) (JumpFaults l at linked) n o
 
+  abbrev follows : ℕ → Tabs → Memory → ℕ → Out → Type 0
+  follows base t m n o = Follows l program p (Jalr rd rs1 imm) q base (JumpRow l at linked) t m n o
+
   -- what JUMP does follows the program
-  follow-on : (base n : ℕ) (t : Tabs) (m : Memory) (s : Point) → s.tabs ≡ t → jump_led base n (Goes s m) → led base t m n (Goes s m)
-  follow-on base n t m s e (on row ok less inner) = on (inr row, record { tables = e; memory = refl }) ok less inner
+  follow-on : (base n : ℕ) (t : Tabs) (m : Memory) (s : Point) → s.tabs ≡ t → jump_led base n (Goes s m) → follows base t m n (Goes s m)
+  follow-on base n t m s e (on row ok less inner) = on (row, record { tables = e; memory = refl }) ok less inner
   follow-on base n t m s e (leaps place a d) = leaps place a (follow-on base n t m (record s { place = place }) e d)
   follow-on base n t m s e (arrives target a b c ok) = arrives target a b (arrived target s.regs s.tabs m b c, record { tables = e; memory = refl }) ok
 
-  follow-park : (base n : ℕ) (t : Tabs) (m : Memory) (cause : Park) (s : Point) → s.tabs ≡ t → jump_led base n (Parks cause s m) → led base t m n (Parks cause s m)
+  follow-park : (base n : ℕ) (t : Tabs) (m : Memory) (cause : Park) (s : Point) → s.tabs ≡ t → jump_led base n (Parks cause s m) → follows base t m n (Parks cause s m)
   follow-park base n t m cause s e (parks why ok) = parks (faulted cause s.tabs m why, record { tables = e; memory = refl }) ok
 
-  follow : (base n : ℕ) (t : Tabs) (m : Memory) (o : Out) → Steady t m o → jump_led base n o → led base t m n o
+  follow : (base n : ℕ) (t : Tabs) (m : Memory) (o : Out) → Steady t m o → jump_led base n o → follows base t m n o
   follow base n t m _ (going s e) d = follow-on base n t m s e d
   follow base n t m _ (parking cause s e) d = follow-park base n t m cause s e d
 

@@ -1,5 +1,5 @@
 -- The rows of the block of jalr, which goes on in the helper JUMP (this project's own).
-use Rattle.std.specs.Prelude.{ℕ, ◌+◌, ◌⊎◌, ℤ, List}
+use Rattle.std.specs.Prelude.{ℕ, ◌+◌, ◌≡◌, ◌⊎◌, ℤ, List}
 use Rattle.spec_base.specs.Word.{plus_int}
 use Rattle.spec_base.specs.Layout.{helpers_start}
 use Rattle.spec_base.specs.declared.layout.Layout.{Layout}
@@ -10,7 +10,7 @@ use Rattle.code_model.specs.Blocks.{block}
 use Rattle.code_model.specs.Places.{block_at, JUMP}
 use Rattle.side_model.specs.Hart.{Regs, get, put, Priv}
 use Rattle.side_model.specs.Tables.{Tabs, TableOk}
-use Rattle.side_model.specs.Places.{Place, InBlock, code}
+use Rattle.side_model.specs.Places.{Jumping, Place, InBlock, InHelper, code}
 use Rattle.side_model.specs.Words.{exec_some}
 use Rattle.side_model.specs.JumpRows.{high_part, with_31, JumpRow, JumpFits}
 use Rattle.rows_flow.specs.Following.{IsInstruction, Follows}
@@ -46,9 +46,9 @@ module _ (l : Layout) (p rd rs1 : ℕ) (imm : ℤ) (q : Regs) where
     r7 : (s : Priv) {t : Tabs} → JalrRow (InBlock 7) (put rd (p + 4) (with_31 q at)) (kept s) t 19
     r8 : (s : Priv) {t : Tabs} → JalrRow (InBlock 8) (with_31 linked (high_part (helpers_start + JUMP))) (kept s) t 18
 
-  -- the rows of the block and of JUMP
+  -- the rows of the block, and the first one of JUMP
   abbrev pub JalrsRow : Place → Regs → Priv → Tabs → ℕ → Type 0
-  JalrsRow place rs s t n = JalrRow place rs s t n ⊎ JumpRow l at linked place rs s t n
+  JalrsRow place rs s t n = JalrRow place rs s t n ⊎ ((place ≡ InHelper Jumping 0) × JumpRow l at linked place rs s t n)
 
 -- each word of its block follows it, into JUMP
 abbrev pub JalrLeads : Type 0
@@ -64,7 +64,7 @@ JumpFollows =
     (l : Layout) (p rd rs1 : ℕ) (imm : ℤ) (q : Regs) (base : ℕ) (words : List Instr) (program : Memory) → IsInstruction l p
     → JumpFits l (plus_int (get rs1 q) imm) (put rd (p + 4) q) base words
     → (n : ℕ) (place : Place) (rs : Regs) (s : Priv) (t : Tabs) (m : Memory) → TableOk l t → JumpRow l (plus_int (get rs1 q) imm) (put rd (p + 4) q) place rs s t n
-    → Follows l program p (Jalr rd rs1 imm) q base (JalrsRow l p rd rs1 imm q) t m n
+    → Follows l program p (Jalr rd rs1 imm) q base (JumpRow l (plus_int (get rs1 q) imm) (put rd (p + 4) q)) t m n
     (exec_some base (code l words place) (record { place = place; regs = rs; priv = s; tabs = t }) m)
 
 -- at word 1 there are 25 words left at most

@@ -27,7 +27,7 @@ use Rattle.side_model.proofs.Tabling.{all_regions-most}
 use Rattle.side_model.proofs.JumpWords.{forks, jump_leads}
 use Rattle.rows_log.specs.Queue.{LeavesLink}
 use Rattle.rows_log.specs.CallRows.{IsSite}
-use Rattle.rows_log.specs.RestartRows.{HasBox, AreLoaded, IsAnswered, with_four, Cleared, AllCleared, IsFresh, saved, RestartRow, r1, r2, r3, r4, r5, r6, r7, r8, r9, r10, r11, r12, r13, r14, r15, r16, r17, r18-47, r48, r49, r50, RestartedRow, RestartNext, word, call, Same, RestartArrives, RestartFaults, RestartStarts, RestartLeads, BoxStays, RestartedLeads}
+use Rattle.rows_log.specs.RestartRows.{is_hcall, HasBox, AreLoaded, IsAnswered, with_four, Cleared, AllCleared, IsFresh, saved, RestartRow, r1, r2, r3, r4, r5, r6, r7, r8, r9, r10, r11, r12, r13, r14, r15, r16, r17, r18-47, r48, r49, r50, RestartedRow, RestartNext, word, call, Same, RestartArrives, RestartFaults, RestartStarts, RestartLeads, BoxStays, RestartedLeads}
 
 -- ---- numbers
 
@@ -123,8 +123,8 @@ module _ (l : Layout) (site : ℕ) (q : Regs) (base : ℕ) (words : List Instr) 
   text = text-fits l is.lawful
 
   -- the next row, with the memory as it is
-  next : {from place : Place} {rs : Regs} {s : Priv} {t : Tabs} {m : Memory} {k : ℕ} → row place rs s t k → RestartNext l site q from m place rs s t m k
-  next r = word r (λ a h. refl)
+  next : {from place : Place} {rs : Regs} {s : Priv} {t : Tabs} {m : Memory} {k : ℕ} → is_hcall from ≡ false → row place rs s t k → RestartNext l site q from m place rs s t m k
+  next other r = word r other (λ a h. refl)
 
   -- so many slots are in use at most
   count-most : (t : Tabs) → TableOk l t → t.count ≤ 65536
@@ -185,13 +185,13 @@ module _ (l : Layout) (site : ℕ) (q : Regs) (base : ℕ) (words : List Instr) 
       let most : w.0 < 0x40_0000 = omega (arith, w.1, all_regions-most l) in
       let at : plus_int (t.listed j) (pos 0) ≡ entry_address w.0 = ap (λ (a : ℕ). plus_int a (pos 0)) w.2 ∙ omega arith in
       puts_entry w.0 at w.1 (lit< tt)
-      (on (word (r9 j s h (cleared-without j w.0 t ok w.2 c)) (leaves-stored m (plus_int (t.listed j) (pos 0)) 4 0 (omega (arith, at)))) (ok-without w.0 t ok) (fewer _ _ (omega arith)) refl)
+      (on (word (r9 j s h (cleared-without j w.0 t ok w.2 c)) refl (leaves-stored m (plus_int (t.listed j) (pos 0)) 4 0 (omega (arith, at)))) (ok-without w.0 t ok) (fewer _ _ (omega arith)) refl)
 
   -- word 11 sets the count
   resets : {low : ℕ → ℕ} {b c d : ℕ} (s : Priv) (t : Tabs) (m : Memory) → AllCleared l t → leads 57 (InHelper Restarting 10) (with_four low list_start b c d) s t m
   resets s t m c =
       puts_count refl (lit< tt)
-      (on (word (r12 s (record { count = refl; entries = c })) (leaves-stored m list_start 8 0 (omega arith)))
+      (on (word (r12 s (record { count = refl; entries = c })) refl (leaves-stored m list_start 8 0 (omega arith)))
       (record { count = omega arith; listed = λ slot h. absurd (omega arith); entry = λ x inside some. absurd (omega (arith, c x inside, some)) }) refl refl)
 
   -- ---- the registers
@@ -211,17 +211,21 @@ module _ (l : Layout) (site : ℕ) (q : Regs) (base : ℕ) (words : List Instr) 
           let some : (suc k == 0) ≡ false = grind (arith, nat_tests) in subst (λ (j : ℕ). get j (put (suc k) v rs) ≡ get j q) at (get_put (suc k) v rs some ∙ e)
       by_test false g = let other : i ≢ suc k = grind (arith, nat_tests) in get-other i k v rs other ∙ f i (grind (arith, nat_tests))
 
+  -- word 18 + k isn't the HCALL
+  not-47 : (k : ℕ) → k < 30 → (17 + k == 47) ≡ false
+  not-47 k h = grind (arith, nat_tests)
+
   -- the row behind it
   behind : (k : ℕ) (rs : Regs) (s : Priv) (t : Tabs) (m : Memory) → TableOk l t → IsFresh l t → k < 30 → rs.x31 ≡ box_start → AreLoaded (suc k) q rs → (k + 1 < 30) ⊎ (k ≡ 29)
       → led (InHelper Restarting (17 + k)) m (50 - k) (Goes (record { place = InHelper Restarting (suc (17 + k)); regs = rs; priv = saved l site q s; tabs = t }) m)
   behind k rs s t m ok fresh h e f (inl g) =
       let at : 17 + suc k ≡ suc (17 + k) = omega arith in
       subst (λ (n : ℕ). led (InHelper Restarting (17 + k)) m (50 - k) (Goes (record { place = InHelper Restarting n; regs = rs; priv = saved l site q s; tabs = t }) m)) at
-      (on (next (r18-47 (suc k) s (omega arith) fresh e f)) ok (fewer (50 - suc k) (50 - k) (omega arith)) refl)
+      (on (next (not-47 k h) (r18-47 (suc k) s (omega arith) fresh e f)) ok (fewer (50 - suc k) (50 - k) (omega arith)) refl)
   behind k rs s t m ok fresh h e f (inr g) =
       let at : 47 ≡ suc (17 + k) = omega arith in
       subst (λ (n : ℕ). led (InHelper Restarting (17 + k)) m (50 - k) (Goes (record { place = InHelper Restarting n; regs = rs; priv = saved l site q s; tabs = t }) m)) at
-      (on (next (r48 s fresh (λ i j. f i (omega arith)))) ok (fewer 20 (50 - k) (omega arith)) refl)
+      (on (next (not-47 k h) (r48 s fresh (λ i j. f i (omega arith)))) ok (fewer 20 (50 - k) (omega arith)) refl)
 
   -- word 18 + k loads register k + 1
   loads : (k : ℕ) (rs : Regs) (s : Priv) (t : Tabs) (m : Memory) → TableOk l t → HasBox m site q → k < 30 → IsFresh l t → rs.x31 ≡ box_start → AreLoaded k q rs
@@ -249,27 +253,27 @@ module _ (l : Layout) (site : ℕ) (q : Regs) (base : ℕ) (words : List Instr) 
 
   -- each word up to the HCALL
   restart-words : {t : Tabs} {n : ℕ} {place : Place} {rs : Regs} {s : Priv} (m : Memory) → TableOk l t → HasBox m site q → row place rs s t n → leads n place rs s t m
-  restart-words m ok box (r1 s) = on (next (r2 s)) ok (fewer _ _ (omega arith)) refl
-  restart-words m ok box (r2 s) = takes_count refl (on (next (r3 s)) ok (fewer _ _ (omega arith)) refl)
-  restart-words m ok box (r3 s) = on (next (r4 s)) ok (fewer _ _ (omega arith)) refl
-  restart-words m ok box (r4 s {t}) = let d : wrap (t.count * 4) ≡ 4 * t.count = omega (arith, count-most t ok) in rw d (on (next (r5 s)) ok (fewer _ _ (omega arith)) refl)
+  restart-words m ok box (r1 s) = on (next refl (r2 s)) ok (fewer _ _ (omega arith)) refl
+  restart-words m ok box (r2 s) = takes_count refl (on (next refl (r3 s)) ok (fewer _ _ (omega arith)) refl)
+  restart-words m ok box (r3 s) = on (next refl (r4 s)) ok (fewer _ _ (omega arith)) refl
+  restart-words m ok box (r4 s {t}) = let d : wrap (t.count * 4) ≡ 4 * t.count = omega (arith, count-most t ok) in rw d (on (next refl (r5 s)) ok (fewer _ _ (omega arith)) refl)
   restart-words m ok box (r5 s {t}) =
-      let d : wrap (4 * t.count + listed_address 0) ≡ listed_address t.count = omega (arith, count-most t ok) in rw d (on (next (r6 0 s {t = t} (omega arith) (λ x inside some. some))) ok (fewer _ _ (omega arith)) refl)
+      let d : wrap (4 * t.count + listed_address 0) ≡ listed_address t.count = omega (arith, count-most t ok) in rw d (on (next refl (r6 0 s {t = t} (omega arith) (λ x inside some. some))) ok (fewer _ _ (omega arith)) refl)
   restart-words m ok box (r6 j s {t} h c) =
       forks (nat_le (listed_address t.count) (listed_address j))
-      (λ e. let over : t.count ≤ j = grind (arith, nat_tests) in leaps (InHelper Restarting 10) refl (on (next (r11 s (all-cleared j t ok over c))) ok (fewer _ _ (omega arith)) refl))
-      (λ e. let under : j < t.count = grind (arith, nat_tests) in on (next (r7 j s under c)) ok (fewer _ _ (omega arith)) refl)
-  restart-words m ok box (r7 j s {t} h c) = takes_listed j (omega (arith, count-most t ok)) (omega (arith, ok.count)) (on (next (r8 j s h c)) ok (fewer _ _ (omega arith)) refl)
+      (λ e. let over : t.count ≤ j = grind (arith, nat_tests) in leaps (InHelper Restarting 10) refl (on (next refl (r11 s (all-cleared j t ok over c))) ok (fewer _ _ (omega arith)) refl))
+      (λ e. let under : j < t.count = grind (arith, nat_tests) in on (next refl (r7 j s under c)) ok (fewer _ _ (omega arith)) refl)
+  restart-words m ok box (r7 j s {t} h c) = takes_listed j (omega (arith, count-most t ok)) (omega (arith, ok.count)) (on (next refl (r8 j s h c)) ok (fewer _ _ (omega arith)) refl)
   restart-words m ok box (r8 j s {t} h c) = clears j s t m ok h c
-  restart-words m ok box (r9 j s {t} h c) = let d : wrap (listed_address j + 4) ≡ listed_address (j + 1) = omega (arith, count-most t ok) in rw d (on (next (r10 j s h c)) ok (fewer _ _ (omega arith)) refl)
-  restart-words m ok box (r10 j s {t} h c) = leaps (InHelper Restarting 5) refl (on (next (r6 (j + 1) s {t = t} (omega arith) c)) ok (fewer _ _ (omega arith)) refl)
+  restart-words m ok box (r9 j s {t} h c) = let d : wrap (listed_address j + 4) ≡ listed_address (j + 1) = omega (arith, count-most t ok) in rw d (on (next refl (r10 j s h c)) ok (fewer _ _ (omega arith)) refl)
+  restart-words m ok box (r10 j s {t} h c) = leaps (InHelper Restarting 5) refl (on (next refl (r6 (j + 1) s {t = t} (omega arith) c)) ok (fewer _ _ (omega arith)) refl)
   restart-words m ok box (r11 s {t} c) = resets s t m c
-  restart-words m ok box (r12 s f) = on (next (r13 s f)) ok refl refl
-  restart-words m ok box (r13 s f) = takes_link refl (omega arith) (omega arith) (rw box.holds (on (next (r14 s f)) ok refl refl))
-  restart-words m ok box (r14 s f) = let d : wrap (site + 4) ≡ site + 4 = omega (arith, is.below, text.below) in rw d (on (next (r15 s f)) ok refl refl)
-  restart-words m ok box (r15 s f) = on (next (r16 s f)) ok refl refl
-  restart-words m ok box (r16 s f) = takes_link refl (omega arith) (omega arith) (rw (box.registers 31 (omega arith)) (on (next (r17 s f)) ok refl refl))
-  restart-words m ok box (r17 s f) = on (next (r18-47 0 s (lit< tt) f refl (none-loaded _))) ok refl refl
+  restart-words m ok box (r12 s f) = on (next refl (r13 s f)) ok refl refl
+  restart-words m ok box (r13 s f) = takes_link refl (omega arith) (omega arith) (rw box.holds (on (next refl (r14 s f)) ok refl refl))
+  restart-words m ok box (r14 s f) = let d : wrap (site + 4) ≡ site + 4 = omega (arith, is.below, text.below) in rw d (on (next refl (r15 s f)) ok refl refl)
+  restart-words m ok box (r15 s f) = on (next refl (r16 s f)) ok refl refl
+  restart-words m ok box (r16 s f) = takes_link refl (omega arith) (omega arith) (rw (box.registers 31 (omega arith)) (on (next refl (r17 s f)) ok refl refl))
+  restart-words m ok box (r17 s f) = on (next refl (r18-47 0 s (lit< tt) f refl (none-loaded _))) ok refl refl
   restart-words {rs} m ok box (r18-47 k s {t} h f e g) = loads k rs s t m ok box h f e g
   restart-words {rs} m ok box (r48 s f g) = calls (λ answer t' m' small ok'. on (call answer (record (put 10 answer rs) { x31 = q.x31 }) refl small (answered-regs answer rs g) (inl (r49 s))) ok' refl refl) ok
 

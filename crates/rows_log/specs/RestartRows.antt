@@ -1,5 +1,5 @@
 -- The rows of the helper RESTART, which clears the regions and goes on from the box (this project's own).
-use Rattle.std.specs.Prelude.{ℕ, ◌+◌, ◌-◌, ◌*◌, ◌^◌, ◌≡◌, ◌≢◌, ◌≤◌, ◌<◌, ◌⊎◌, List}
+use Rattle.std.specs.Prelude.{ℕ, ◌+◌, ◌-◌, ◌*◌, ◌^◌, ◌≡◌, ◌≢◌, ◌≤◌, ◌<◌, ◌⊎◌, Bool, true, false, ◌==◌, List}
 use Rattle.spec_base.specs.Layout.{helpers_start, list_start}
 use Rattle.spec_base.specs.declared.layout.Layout.{Layout}
 use Rattle.spec_base.specs.declared.park.Park.{Park}
@@ -109,9 +109,14 @@ module _ (l : Layout) (site : ℕ) (q : Regs) where
 
 -- ---- what a word leads to
 
+-- whether a place is the HCALL's
+abbrev pub is_hcall : Place → Bool
+is_hcall (InHelper Restarting n) = n == 47
+is_hcall _ = false
+
 -- from a word at this place, with this memory: to the next row, with all below the table as it is; or, by the HCALL, to the words behind it, with an answer in x10 and whatever the call leaves
 pub data RestartNext (l : Layout) (site : ℕ) (q : Regs) (from : Place) (m : Memory) : Place → Regs → Priv → Tabs → Memory → ℕ → Type 0 where
-  word : {place : Place} {rs : Regs} {s : Priv} {t' : Tabs} {m' : Memory} {k : ℕ} → RestartRow l site q place rs s t' k → LeavesLink m m' → RestartNext l site q from m place rs s t' m' k
+  word : {place : Place} {rs : Regs} {s : Priv} {t' : Tabs} {m' : Memory} {k : ℕ} → RestartRow l site q place rs s t' k → is_hcall from ≡ false → LeavesLink m m' → RestartNext l site q from m place rs s t' m' k
   call : {place : Place} {rs : Regs} {s : Priv} {t' : Tabs} {m' : Memory} {k : ℕ} (answer : ℕ) (answered : Regs) → from ≡ InHelper Restarting 47 → answer < 2 ^ 64 → IsAnswered q answer answered
       → RestartedRow l site answered place rs s t' k → RestartNext l site q from m place rs s t' m' k
 

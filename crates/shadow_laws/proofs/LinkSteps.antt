@@ -249,7 +249,7 @@ module _ (w : World) (a : Accepted w) (x : Answer) (r : Run) (z : Sized (stock_o
       stored-by keeps at (restart_leads l site q base words program is n at.point.place at.point.regs at.point.priv at.point.tabs r.shared at.ok at.row.1 at.row.0) (λ i e b s k row. by_row i e b s k row) (λ to s y. absurd y)
     where
       by_row : (i : Instr) → code l words at.point.place ≡ Some i → stores_out i ≡ true → (s : Point) (k : ℕ) → RestartNext l site q at.point.place r.shared s.place s.regs s.priv s.tabs after.shared k → X
-      by_row i e b s k (word row leaves) = keeps leaves
+      by_row i e b s k (word row other leaves) = keeps leaves
       by_row i e b s k (call answer answered from small is_answered row) =
           let is : Some (Hcall true) ≡ Some i = ap (code l words) (sym from) ∙ e in
           let same : Hcall true ≡ i = cc in wrong (subst (λ (j : Instr). stores_out j ≡ true) (sym same) b)

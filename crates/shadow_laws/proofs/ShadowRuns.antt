@@ -54,7 +54,7 @@ use Rattle.shadow_laws.proofs.Sound.{CallRows, Starts, At, calling, Sound, resta
 use Rattle.shadow_laws.proofs.Sound as landing
 use Rattle.shadow_laws.proofs.SoundSteps.{sound-steps, sound-stays, landed, settles}
 use Rattle.shadow_laws.proofs.SoundSteps.{next as step-to}
-use Rattle.shadow_laws.proofs.AnyCalls.{AnyCallRow, b1, any_call-leads}
+use Rattle.shadow_laws.proofs.AnyCalls.{AnyCallRow, b1, next-row, any_call-leads}
 use Rattle.side_model.specs.Hart.{Regs}
 use Rattle.code_model.specs.Blocks.{block}
 use Rattle.rv_model.specs.Space.{program_byte}
@@ -218,7 +218,7 @@ module _ (w : World) (a : Accepted w) where
 
       calls : (p : ℕ) (q : Regs) → IsSite l p → At w (block_at l p) (block l p Ecall) (any_calls w p q) (shade_of r) n → Lands w (any_calls w) n (shade_of next)
       calls p q is at =
-          settles w a x r z (any_calls w) any-start (λ s k row v ok. calling p q is (step-to w a x r z at s v ok row))
+          settles w a x r z (any_calls w) any-start (λ s k row v ok. calling p q is (step-to w a x r z at s v ok (next-row l p q row)))
           (landed w a x r z at (any_call-leads l p q (program_byte l (rewritten_words w) r.own.memory) is r.shared at.ok at.row))
 
       by_landing : Counted w r next → Lands w (any_calls w) n (shade_of next) → Kept w (watched_of next)

@@ -166,7 +166,7 @@ module _ (w : World) (a : Accepted w) where
 
           by_row : (s : Point) (k : ℕ) → JalrsRow l p rd rs1 imm q s.place s.regs s.priv s.tabs k → Sees l (block_at l p) after s after.shared → TableOk l s.tabs → Sound w C after k
           by_row s k (inl row) v ok = going p rd rs1 imm q is (next at s v ok row)
-          by_row s k (inr row) v ok = jumps (plus_int (get rs1 q) imm) (put rd (p + 4) q) p (block l p (Jalr rd rs1 imm)) s k (wrap-small (get rs1 q + word_of_int imm)) here refl at.code row v ok
+          by_row s k (inr (enters, row)) v ok = jumps (plus_int (get rs1 q) imm) (put rd (p + 4) q) p (block l p (Jalr rd rs1 imm)) s k (wrap-small (get rs1 q + word_of_int imm)) here refl at.code row v ok
       sound-steps {n} calls (jumping to q base words fits at) =
           settles (λ s k row v ok. jumping to q base words fits (next at s v ok row)) (landed at (jump_leads l to q base words program fits n at.point.place at.point.regs at.point.priv at.point.tabs r.shared at.ok at.row))
       sound-steps {n} calls (padded p words b f at) = settles (λ s k row v ok. padded p words b f (next at s v ok row)) (landed at (pad-leads p n words b f r.shared at.ok at.row))
@@ -190,7 +190,7 @@ module _ (w : World) (a : Accepted w) where
           (landed at (restart_leads l site q base words program is n at.point.place at.point.regs at.point.priv at.point.tabs r.shared at.ok at.row.1 at.row.0))
         where
           by_row : (s : Point) (k : ℕ) → RestartNext l site q at.point.place r.shared s.place s.regs s.priv s.tabs after.shared k → Sees l base after s after.shared → TableOk l s.tabs → Sound w C after k
-          by_row s k (word row leaves) v ok =
+          by_row s k (word row other leaves) v ok =
               restarting site q base words is fits (next at s v ok (row, box_stays r.shared after.shared site q (λ b g h. leaves b (omega arith)) at.row.1))
           by_row s k (call answer answered from small is_answered row) v ok =
               unboxing site answered base words is (record { lawful = fits.lawful; small = fits.small; place = fits.place; pad = fits.pad }) (next at s v ok row)

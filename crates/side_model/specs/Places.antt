@@ -1,5 +1,5 @@
 -- The places of the shadow's words: in the block at hand, or in a helper (this project's own).
-use Rattle.std.specs.Prelude.{ℕ, suc, ◌+◌, ◌-◌, ◌*◌, ◌%◌, ◌≡◌, ◌≤◌, Bool, true, false, not, ◌==◌, List, [], ◌∷◌, ◌++◌, slice_get, Option, None}
+use Rattle.std.specs.Prelude.{ℕ, suc, ◌+◌, ◌-◌, ◌*◌, ◌%◌, ◌≡◌, ◌≤◌, Bool, true, false, not, ◌&&◌, ◌==◌, nat_lt, List, [], ◌∷◌, ◌++◌, slice_get, Option, None}
 use Rattle.spec_base.specs.Layout.{helpers_start, shadow_start}
 use Rattle.spec_base.specs.declared.layout.Layout.{Layout}
 use Rattle.spec_base.specs.declared.park.Park.TheVariants as park
@@ -103,7 +103,7 @@ code l block (Away a) = None
 
 -- a place that is known, and isn't word 1 of a block
 abbrev pub is_inner : Place → Bool
-is_inner (InBlock n) = not (n == 1)
+is_inner (InBlock n) = nat_lt n 16 && not (n == 1)
 is_inner (InHelper h n) = true
 is_inner (Away a) = false
 
