@@ -1,0 +1,31 @@
+//! One word of the shadow.
+
+ghost use Rattle.std.specs.Prelude.{◌≡◌, ◌≢◌, ◌+◌, ◌≤◌};
+ghost use Rattle.run_model.specs.Run.{World, Run};
+ghost use Rattle.run_model.specs.OwnLaws.{Accepted};
+ghost use Rattle.hart_mem.specs.Held.{lacks_frame, space_of, spare_of};
+ghost use Rattle.hart_step.specs.Core.{core_of};
+ghost use Rattle.hart_step.specs.Step.{outcome, stepped, effect_here};
+ghost use Rattle.shadow_walk.specs.Shows.{ShowsShadow, MovesBy};
+
+use hart_mem::Mem;
+use hart_step::{Event, Hart, step};
+use spec_base::View;
+
+/// Steps a hart in the shadow's view. It is the shadow's move in every run of an accepted program
+/// that hart and memory show.
+///
+/// `Done`, `Park` and `Trap` tell that the move is made; a trap parks the shadow. At `Key` and `Call`
+/// it is left to the caller, who goes on by `Hart::answer`. No other event comes: a store of the
+/// shadow never wants a frame.
+pub fn advance(hart: &mut Hart, mem: &mut Mem) -> Event
+    requires shadow { (core_of hart.old).view ≡ View.Shadow }
+    ensures outcome { outcome result (core_of hart.new) (space_of mem.new) ≡ stepped (lacks_frame (core_of hart.old).view mem.old) (effect_here (core_of hart.old) (space_of mem.old)) (core_of hart.old) (space_of mem.old) }
+    ensures memory { result ≢ Event.Done → mem.new ≡ mem.old }
+    ensures never_starved { result ≢ Event.NoMemory }
+    ensures spare { (spare_of mem.new ≤ spare_of mem.old) × (spare_of mem.old ≤ spare_of mem.new + 1) }
+    ensures moves { (w : World) (r : Run) → Accepted w → ShowsShadow w r (core_of hart.old) (space_of mem.old) →
+        MovesBy result w r (core_of hart.old) (space_of mem.old) (core_of hart.new) (space_of mem.new) }
+{
+    step(hart, mem)
+}
