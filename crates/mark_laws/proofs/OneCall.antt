@@ -117,7 +117,7 @@ plan_agrees l m v f rs q alike h files no_use =
 -- ---- which calls read
 
 -- whether a call opens a file
-abbrev is_open : CallKind → Bool
+abbrev pub is_open : CallKind → Bool
 is_open Open = true
 is_open OpenAt = true
 is_open _ = false
@@ -140,7 +140,7 @@ open_plan-is_read data_at w f a flags = by_flags (flags % 4 == 0)
     by_flags false = refl
 
 -- so a call that opens has no read
-plan_by-is_read : (kind : CallKind) → is_open kind ≡ true → (data_at : ℕ → Bool) (w : Memory) (f : Descriptors) (x10 x11 x12 : ℕ) → is_read (plan_by data_at w f kind x10 x11 x12) ≡ false
+pub plan_by-is_read : (kind : CallKind) → is_open kind ≡ true → (data_at : ℕ → Bool) (w : Memory) (f : Descriptors) (x10 x11 x12 : ℕ) → is_read (plan_by data_at w f kind x10 x11 x12) ≡ false
 plan_by-is_read Open o data_at w f x10 x11 x12 = open_plan-is_read data_at w f x10 x11
 plan_by-is_read OpenAt o data_at w f x10 x11 x12 = open_plan-is_read data_at w f x11 x12
 plan_by-is_read kind o data_at w f x10 x11 x12 = true_false (sym o)

@@ -9,3 +9,4 @@ pub mod LinkSteps
 pub mod LoggedSteps
 pub mod LogMoves
 pub mod LogRuns
+pub mod SoundWords

@@ -197,7 +197,7 @@ module _ (w : World) (a : Accepted w) where
   -- ---- a word of the shadow
 
   -- word 1 of a block is an arrival
-  block-arrives : (p : ℕ) → HasBlock l p → is_arrival l (block_at l p + 4) ≡ true
+  pub block-arrives : (p : ℕ) → HasBlock l p → is_arrival l (block_at l p + 4) ≡ true
   block-arrives p b =
       let f : TextFits l = text w a in
       let lower : nat_lt (block_at l p + 4) helpers_start ≡ true = grind (arith, nat_tests, b.above, b.below, f.few) in

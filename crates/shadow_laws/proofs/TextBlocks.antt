@@ -7,11 +7,11 @@ use Rattle.std.proofs.lemmas.Option.{slice_get-get_or, slice_get-map}
 use Rattle.std.proofs.Math.Nat.{eq-or-lt_of_le}
 use Rattle.std.specs.Option.{option_map}
 use Rattle.spec_base.specs.declared.layout.Layout.{Layout}
-use Rattle.rv_decode.specs.Encoding.{IsEncodable}
+use Rattle.rv_decode.specs.Encoding.{IsEncodable, HasRegisters}
 use Rattle.rv_decode.specs.Instruction.{instr_of}
 use Rattle.rv_decode.specs.declared.instr.Instr.{Instr}
 use Rattle.rv_decode.specs.declared.instr.Instr.TheVariants.{Illegal}
-use Rattle.rv_decode.proofs.Encodable.{decoded_is_encodable}
+use Rattle.rv_decode.proofs.Encodable.{decoded_is_encodable, decoded_has_registers}
 use Rattle.program_model.specs.PlainRun.{text_of}
 use Rattle.code_model.specs.Assembly.{X31, ld}
 use Rattle.code_model.specs.Blocks.{block, guard_block, blocks_from, with_pad, park_words}
@@ -22,13 +22,15 @@ use Rattle.side_model.specs.Places.{IsBase, HasBlock}
 use Rattle.side_model.proofs.Fetching.{CodeAt, block_code}
 use Rattle.side_model.proofs.Numbers.{TextFits, text-fits}
 
--- the block of an instruction that stands in the text
+-- an instruction stands in the text, and its block in the shadow text
 pub record InText (w : World) (p : ℕ) (i : Instr) : Type 0 where
   pub above : w.image.layout.text_start ≤ p
   pub below : p < w.image.layout.text_end
   pub whole : p % 4 ≡ 0
   pub code : CodeAt w (block_at w.image.layout p) (block w.image.layout p i)
   pub encodable : i ≢ Illegal → IsEncodable i
+  pub word : slice_get (text_of w.image) ((p - w.image.layout.text_start) / 4) ≡ Some i
+  pub registers : HasRegisters i
 
 -- ---- blocks of a text
 
@@ -88,6 +90,8 @@ module _ (w : World) (a : Accepted w) where
           whole = omega (arith, h.above, h.whole, text.start);
           code = block_code w p (block l p i) (base-lawful p h) h.whole block_is (pad-most _);
           encodable = decoded_is_encodable (get_or w.image.words k 0) word;
+          word = e;
+          registers = decoded_has_registers (get_or w.image.words k 0);
         },
       )
 

@@ -61,13 +61,13 @@ block-whole : (l : Layout) (p : ℕ) → (block_at l p + 4) % 4 ≡ 0
 block-whole l p = omega arith
 
 -- a place of the private page is a multiple of 8 in it
-record IsPrivate (a : ℕ) : Type 0 where
-  whole : a % 8 ≡ 0
-  above : private_start ≤ a
-  below : a + 8 ≤ 2 ^ 64
-  inside : in_private a ≡ true
+pub record IsPrivate (a : ℕ) : Type 0 where
+  pub whole : a % 8 ≡ 0
+  pub above : private_start ≤ a
+  pub below : a + 8 ≤ 2 ^ 64
+  pub inside : in_private a ≡ true
 
-place-private : (a : ℕ) → is_place a ≡ true → IsPrivate a
+pub place-private : (a : ℕ) → is_place a ≡ true → IsPrivate a
 place-private a h =
     by_place IsPrivate
     (record { whole = refl; above = omega arith; below = omega arith; inside = refl }) (record { whole = refl; above = omega arith; below = omega arith; inside = refl })
@@ -75,6 +75,14 @@ place-private a h =
     (record { whole = refl; above = omega arith; below = omega arith; inside = refl }) (record { whole = refl; above = omega arith; below = omega arith; inside = refl })
     (record { whole = refl; above = omega arith; below = omega arith; inside = refl }) (record { whole = refl; above = omega arith; below = omega arith; inside = refl })
     a h
+
+-- a point that is led stands at a multiple of 4
+module _ (l : Layout) (program : Memory) (base : ℕ) (Row : Place → Regs → Priv → Tabs → Memory → ℕ → Type 0)
+    (Arrives : ℕ → Regs → Tabs → Memory → Type 0) (Why : Park → Tabs → Memory → Type 0) (n : ℕ) (lawful : IsBase base) where
+  pub aligned : (s : Point) (m : Memory) → Led l program base Row Arrives Why n (Goes s m) → address base s.place % 4 ≡ 0
+  aligned s m (on row ok less inner) = inner-whole base s.place lawful inner
+  aligned s m (leaps place e d) = subst (λ a. a % 4 ≡ 0) (sym e) (aligned (record s { place = place }) m d)
+  aligned s m (arrives p e block a ok) = subst (λ a. a % 4 ≡ 0) (sym e) (block-whole l p)
 
 module _ (w : World) (x : Answer) (base : ℕ) (Row : Place → Regs → Priv → Tabs → Memory → ℕ → Type 0)
     (Arrives : ℕ → Regs → Tabs → Memory → Type 0) (Why : Park → Tabs → Memory → Type 0) (n : ℕ)
@@ -115,12 +123,6 @@ module _ (w : World) (x : Answer) (base : ℕ) (Row : Place → Regs → Priv �
       goes h (record s' { place = place }) m d (record { pc = v.pc ∙ e; regs = v.regs; priv = v.priv; tabs = v.tabs; shared = v.shared; running = v.running })
   goes h s' m (arrives p e block a ok) v = arrived p s' m a ok block e v
 
-  -- a multiple of 4
-  aligned : (s' : Point) (m : Memory) → leads (Goes s' m) → address base s'.place % 4 ≡ 0
-  aligned s' m (on row ok less inner) = inner-whole base s'.place lawful inner
-  aligned s' m (leaps place e d) = subst (λ a. a % 4 ≡ 0) (sym e) (aligned (record s' { place = place }) m d)
-  aligned s' m (arrives p e block a ok) = subst (λ a. a % 4 ≡ 0) (sym e) (block-whole l p)
-
   -- ---- computing
 
   -- a register as the row has it
@@ -144,14 +146,14 @@ module _ (w : World) (x : Answer) (base : ℕ) (Row : Place → Regs → Priv �
   -- a jump whose target is a multiple of 4
   leapt : (rd target : ℕ) → leads (Goes (jumped base rd target s) r.shared) → lands (shade_of (shadow_after w x r (jump_if (target % 4 == 0) (with_reg rs rd (after pc)) target)))
   leapt rd target d =
-      subst (λ b. lands (shade_of (shadow_after w x r (jump_if b (with_reg rs rd (after pc)) target)))) (sym (eq-eqb (target % 4) 0 (aligned _ _ d)))
+      subst (λ b. lands (shade_of (shadow_after w x r (jump_if b (with_reg rs rd (after pc)) target)))) (sym (eq-eqb (target % 4) 0 (aligned l program base Row Arrives Why n lawful _ _ d)))
       (subst (λ v. lands (shade_of (shadow_at r (with_reg rs rd v) target))) (sym (next-address base s.place near))
       (goes _ _ _ d (record { pc = refl; regs = HasRegs-put rs s.regs rd (address base (next s.place)) here.regs; priv = here.priv; tabs = here.tabs; shared = refl; running = here.running })))
 
   -- a branch
   forked : (b : Bool) (target : ℕ) → leads (Goes (branched b target s) r.shared) → lands (shade_of (shadow_after w x r (branch_if b rs pc target)))
   forked true target d =
-      subst (λ b. lands (shade_of (shadow_after w x r (jump_if b rs target)))) (sym (eq-eqb (target % 4) 0 (aligned _ _ d)))
+      subst (λ b. lands (shade_of (shadow_after w x r (jump_if b rs target)))) (sym (eq-eqb (target % 4) 0 (aligned l program base Row Arrives Why n lawful _ _ d)))
       (goes _ _ _ d (record { pc = refl; regs = here.regs; priv = here.priv; tabs = here.tabs; shared = refl; running = here.running }))
   forked false target d =
       goes _ _ _ d (record { pc = next-address base s.place near; regs = here.regs; priv = here.priv; tabs = here.tabs; shared = refl; running = here.running })

@@ -7,3 +7,4 @@ pub mod Bridge
 pub mod Numbers
 pub mod JumpWords
 pub mod Stepping
+pub mod NoTraps

@@ -5,3 +5,4 @@ pub mod Words
 pub mod Rows
 pub mod Sees
 pub mod JumpRows
+pub mod Completes

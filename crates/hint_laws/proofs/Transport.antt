@@ -1,0 +1,222 @@
+-- What is said of a run whose shadow follows rests on the restart, the filled reads, the counts and hints, the shadow, and what is shared: it is so of each run that has the same.
+use Rattle.std.proofs.Common.{◌≡◌, ℕ, suc, ◌+◌, ◌/◌, ◌<◌, ◌⊎◌, true, false, List, Option, refl, ◌∙◌, ap, ap₂, sym, subst}
+use Rattle.std.specs.Prelude.{◌≢◌, if◌then◌else◌}
+use Rattle.spec_base.specs.Listed.{is_listed}
+use Rattle.spec_base.specs.declared.note.ShadowState.TheVariants.{Running}
+use Rattle.rv_model.specs.Memory.{Memory}
+use Rattle.program_model.specs.PlainRun.{State}
+use Rattle.code_model.specs.Regions.{entry_of, shadowed}
+use Rattle.run_model.specs.Run.{World, Run, rewritten_words}
+use Rattle.run_model.specs.ShadowMoves.{is_arrival}
+use Rattle.run_model.specs.Restarts.{from_restart, reads, before_horizon}
+use Rattle.run_model.specs.Marks.{Marks, marks, before_use}
+use Rattle.run_model.specs.HintLaws.{is_behind_call, hinted_up_to}
+use Rattle.rv_model.specs.Space.{program_byte}
+use Rattle.side_model.specs.Hart.{Regs}
+use Rattle.side_model.specs.Tables.{all_regions}
+use Rattle.side_model.specs.Sees.{Shade, shade_of, HasRegs}
+use Rattle.mark_laws.specs.Agreement.{Agrees, SeesAlike}
+use Rattle.mark_laws.specs.Settled.{settled_with}
+use Rattle.mark_laws.proofs.Numbers.{alike-same, from_restart-origin, reads-origin, marks_with-alike, settled_with-alike, before_use_with-so_far, before_horizon-so_far}
+use Rattle.hint_laws.proofs.Within.{Doing, goes_to, Within}
+use Rattle.hint_laws.proofs.WithinSteps.{Inner}
+use Rattle.hint_laws.proofs.Followed.{known, regs_of, program_in, view_in, AreCopied, FilledUpTo, is_storing, Spot, first, inner, Works, Behind, Strays, Stands, Rests, Followed, works, behind, strays, rests}
+
+-- ---- runs of which the same is said
+
+-- two runs have the same restart, filled reads, counts and hints, the same registers, descriptors and copies of the shadow, and the same memory of the own hart: all that is said of a run, but where its shadow is, and whether it runs
+pub record SameBut (r y : Run) : Type 0 where
+  pub origin : y.since.origin ≡ r.since.origin
+  pub filled : y.since.filled ≡ r.since.filled
+  pub count : y.since.shadow ≡ r.since.shadow
+  pub hints : y.since.hints ≡ r.since.hints
+  pub registers : y.shadow.registers ≡ r.shadow.registers
+  pub files : y.shadow.files ≡ r.shadow.files
+  pub shared : y.shared ≡ r.shared
+  pub memory : y.own.memory ≡ r.own.memory
+
+-- and all of the shadow
+pub record SameRun (r y : Run) : Type 0 where
+  pub origin : y.since.origin ≡ r.since.origin
+  pub filled : y.since.filled ≡ r.since.filled
+  pub count : y.since.shadow ≡ r.since.shadow
+  pub hints : y.since.hints ≡ r.since.hints
+  pub shade : shade_of y ≡ shade_of r
+  pub memory : y.own.memory ≡ r.own.memory
+
+-- the second says more than the first
+pub same-but : (r y : Run) → SameRun r y → SameBut r y
+same-but r y e =
+    record {
+      origin = e.origin;
+      filled = e.filled;
+      count = e.count;
+      hints = e.hints;
+      registers = ap (λ (h : Shade). h.hart.registers) e.shade;
+      files = ap (λ (h : Shade). h.hart.files) e.shade;
+      shared = ap (λ (h : Shade). h.shared) e.shade;
+      memory = e.memory;
+    }
+
+-- ---- the run from the restart
+
+module _ (w : World) (r y : Run) (origin : y.since.origin ≡ r.since.origin) (filled : y.since.filled ≡ r.since.filled) (i : ℕ) where
+  -- the same marks, by the filled reads
+  pub same-marks : marks w y i ≡ marks w r i
+  same-marks = marks_with-alike w r y r.since.filled y.since.filled i (alike-same i r y origin filled)
+
+  -- the same settled bytes
+  pub same-settled : (x : ℕ) → settled_with y.since.filled w y i x ≡ settled_with r.since.filled w r i x
+  same-settled = settled_with-alike w r y r.since.filled y.since.filled i (alike-same i r y origin filled)
+
+  -- the same uses
+  pub same-use : before_use w y i ≡ before_use w r i
+  same-use = before_use_with-so_far w r y r.since.filled y.since.filled i (alike-same i r y origin filled)
+
+  -- the same horizon
+  pub same-horizon : before_horizon w y i ≡ before_horizon w r i
+  same-horizon = before_horizon-so_far w r y i (alike-same i r y origin filled)
+
+-- the settled bytes are copied where each copy stays
+pub copied-kept : (w : World) (r y : Run) → y.since.origin ≡ r.since.origin → y.since.filled ≡ r.since.filled → (i : ℕ)
+    → ((region : ℕ) → region < all_regions w.image.layout → 0 < entry_of r.shared region → 0 < entry_of y.shared region) → AreCopied w r i → AreCopied w y i
+copied-kept w r y origin filled i kept copied x h =
+    let c : (x / 256 < all_regions w.image.layout) × (0 < entry_of r.shared (x / 256)) = copied x (sym (same-settled w r y origin filled i x) ∙ h) in
+    (c.0, kept (x / 256) c.0 c.1)
+
+-- no read more is filled
+pub filled-same : (r y : Run) → y.since.filled ≡ r.since.filled → (i : ℕ) → FilledUpTo r i → FilledUpTo y i
+filled-same r y e i f k above = ap (λ (numbers : List ℕ). is_listed numbers k) e ∙ f k above
+
+-- up to where the hints reach
+pub hinted-by : (w : World) (r y : Run) → y.shadow.pc ≡ r.shadow.pc → y.since.shadow ≡ r.since.shadow → hinted_up_to w y ≡ hinted_up_to w r
+hinted-by w r y pc count = ap₂ (λ (pc n : ℕ). if is_behind_call w pc then n + 1 else n) pc count
+
+-- ---- each way
+
+module _ (w : World) (r y : Run) (e : SameBut r y) where
+  -- what the program range has
+  pub same-program : program_in w y ≡ program_in w r
+  same-program = ap (λ (m : Memory). program_byte w.image.layout (rewritten_words w) m) e.memory
+
+  -- what the shadow has in place of the program's memory
+  pub same-view : view_in y ≡ view_in r
+  same-view = ap₂ shadowed e.shared e.memory
+
+  -- the settled bytes are copied
+  pub same-copied : (i : ℕ) → AreCopied w r i → AreCopied w y i
+  same-copied i = copied-kept w r y e.origin e.filled i (λ region few some. subst (λ (m : Memory). 0 < entry_of m region) (sym e.shared) some)
+
+  -- the hints are the reads of the run from the restart up to the same instruction
+  pub same-hints : (i j : ℕ) → j ≡ i → r.since.hints ≡ reads w r i → y.since.hints ≡ reads w y j
+  same-hints i j is h = e.hints ∙ h ∙ sym (reads-origin w r y e.origin i) ∙ ap (reads w y) (sym is)
+
+  -- the marks after the shadow's arrivals
+  pub same-marked : marks w y y.since.shadow ≡ marks w r r.since.shadow
+  same-marked = ap (marks w y) e.count ∙ same-marks w r y e.origin e.filled r.since.shadow
+
+  -- and the state
+  pub same-state : from_restart w y y.since.shadow ≡ from_restart w r r.since.shadow
+  same-state = ap (from_restart w y) e.count ∙ from_restart-origin w r y e.origin r.since.shadow
+
+  module _ (pc : y.shadow.pc ≡ r.shadow.pc) where
+    -- a shadow at the same place stands for the same state
+    pub stands-same : (q : State) → Stands w r q → Stands w y q
+    stands-same q s =
+        record {
+          state = same-state ∙ s.state;
+          inside = s.inside;
+          place = pc ∙ s.place;
+          agrees = subst (λ (m : Marks). Agrees m y.shadow.registers q) (sym same-marked) (subst (λ rs. Agrees (marks w r r.since.shadow) rs q) (sym e.registers) s.agrees);
+          files = e.files ∙ s.files;
+          sees = subst (λ (m : Marks). SeesAlike w.image.layout m (view_in y) q) (sym same-marked)
+              (subst (λ (v : Memory). SeesAlike w.image.layout (marks w r r.since.shadow) v q) (sym same-view) s.sees);
+          copied = subst (AreCopied w y) (sym e.count) (same-copied r.since.shadow s.copied);
+        }
+
+    -- and rests in the same way, where it doesn't run
+    pub rests-same : y.shadow.state ≢ Running → Rests w r → Rests w y
+    rests-same still s =
+        let is : hinted_up_to w y ≡ hinted_up_to w r = hinted-by w r y pc e.count in
+        record {
+          still = still;
+          hints = λ h. same-hints (hinted_up_to w r) (hinted_up_to w y) is (s.hints (sym (same-use w r y e.origin e.filled (hinted_up_to w r)) ∙ ap (before_use w y) (sym is) ∙ h));
+          horizon = λ h. same-hints (hinted_up_to w r) (hinted_up_to w y) is (s.horizon (sym (same-horizon w r y e.origin e.filled r.since.shadow) ∙ ap (before_horizon w y) (sym e.count) ∙ h));
+          stands = λ h. let f : (q : State) × Stands w r q = s.stands (ap (is_arrival w.image.layout) (sym pc) ∙ h) in (f.0, stands-same f.0 f.1);
+        }
+
+module _ (w : World) (r y : Run) (e : SameRun r y) where
+  but : SameBut r y
+  but = same-but r y e
+
+  pc : y.shadow.pc ≡ r.shadow.pc
+  pc = ap (λ (h : Shade). h.hart.pc) e.shade
+
+  -- a shadow on an instruction
+  pub works-same : {s : ℕ} {m : Marks} {q : State} {program : Memory} {d : Doing} {n : ℕ} → Works w r s m q program d n → Works w y s m q program d n
+  works-same {s} {m} {q} {program} {d} {n} x =
+      record {
+        count = e.count ∙ x.count;
+        marked = same-marks w r y e.origin e.filled s ∙ x.marked;
+        program_is = same-program w r y but ∙ x.program_is;
+        state = from_restart-origin w r y e.origin s ∙ x.state;
+        goes_on = x.goes_on;
+        inside = x.inside;
+        doing = x.doing;
+        within = subst (λ (h : Shade). Within w (known w.image.layout m q) program d h n) (sym e.shade) x.within;
+        spot = by_spot x.spot;
+        agrees = x.agrees;
+        files = but.files ∙ x.files;
+        sees = λ other safe. subst (λ (v : Memory). SeesAlike w.image.layout m v q) (sym (same-view w r y but)) (x.sees other (subst (λ (pc : ℕ). (is_storing d ≡ false) ⊎ (is_arrival w.image.layout pc ≡ true)) pc safe));
+        later = x.later;
+        anew = λ is. let f = x.anew is in (f.0, e.memory ∙ f.1);
+        copied = same-copied w r y but s x.copied;
+        filled = filled-same r y e.filled s x.filled;
+        hints = same-hints w r y but s s refl x.hints;
+      }
+    where
+      by_spot : Spot w r q d → Spot w y q d
+      by_spot (first at regs other) = first (pc ∙ at) (subst (λ rs. HasRegs rs (regs_of d)) (sym but.registers) regs) other
+      by_spot (inner here) = inner (subst (λ (pc : ℕ). Inner w.image.layout pc d) (sym pc) here)
+
+  -- behind a call
+  pub behind-same : {s : ℕ} {m : Marks} {q : State} {to : ℕ} {g : Regs} {program : Memory} {n : ℕ} → Behind w r s m q to g program n → Behind w y s m q to g program n
+  behind-same {s} {m} {q} {to} {g} {program} {n} x =
+      record {
+        count = e.count ∙ x.count;
+        marked = same-marks w r y e.origin e.filled (suc s) ∙ x.marked;
+        program_is = same-program w r y but ∙ x.program_is;
+        state = from_restart-origin w r y e.origin (suc s) ∙ x.state;
+        goes_on = x.goes_on;
+        target = x.target;
+        within = subst (λ (h : Shade). Within w (known w.image.layout m q) program (goes_to to g) h n) (sym e.shade) x.within;
+        place = subst (λ (pc : ℕ). Inner w.image.layout pc (goes_to to g)) (sym pc) x.place;
+        turn = subst (λ (pc : ℕ). (is_behind_call w pc ≡ true) ⊎ ((is_behind_call w pc ≡ false) × (s ≡ 0))) (sym pc) x.turn;
+        agrees = x.agrees;
+        files = but.files ∙ x.files;
+        sees = subst (λ (v : Memory). SeesAlike w.image.layout m v q) (sym (same-view w r y but)) x.sees;
+        copied = same-copied w r y but (suc s) x.copied;
+        filled = filled-same r y e.filled (suc s) x.filled;
+        hints = same-hints w r y but (suc s) (suc s) refl x.hints;
+        unused = same-use w r y e.origin e.filled (suc s) ∙ x.unused;
+      }
+
+  -- behind a call that is a use
+  pub strays-same : {s : ℕ} {bytes : ℕ → Option ℕ} {program : Memory} {to : ℕ} {g : Regs} {n : ℕ} → Strays w r s bytes program to g n → Strays w y s bytes program to g n
+  strays-same {s} {bytes} {program} {to} {g} {n} x =
+      record {
+        count = e.count ∙ x.count;
+        used = same-use w r y e.origin e.filled (suc s) ∙ x.used;
+        program_is = same-program w r y but ∙ x.program_is;
+        within = subst (λ (h : Shade). Within w bytes program (goes_to to g) h n) (sym e.shade) x.within;
+        place = subst (λ (pc : ℕ). Inner w.image.layout pc (goes_to to g)) (sym pc) x.place;
+        behind = ap (is_behind_call w) pc ∙ x.behind;
+        hints = λ h. same-hints w r y but (suc s) (suc s) refl (x.hints (sym (same-horizon w r y e.origin e.filled s) ∙ h));
+      }
+
+  -- in any of these ways
+  pub followed-same : Followed w r → Followed w y
+  followed-same (works s m q program d n x) = works s m q program d n (works-same x)
+  followed-same (behind s m q to g program n x) = behind s m q to g program n (behind-same x)
+  followed-same (strays s bytes program to g n x) = strays s bytes program to g n (strays-same x)
+  followed-same (rests x) = rests (rests-same w r y but pc (subst (λ (h : Shade). h.hart.state ≢ Running) (sym e.shade) x.still) x)
