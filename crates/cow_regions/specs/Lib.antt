@@ -1,1 +1,4 @@
 pub mod Access
+pub mod Fills
+pub mod Tables
+pub mod Views

@@ -1,7 +1,13 @@
 //! Words of the listings by llvm-mc (Debian LLVM 14.0.6, `llvm-mc -triple=riscv64 -mattr=+m`), but
-//! for the gate instructions.
+//! for the gate instructions; and copies of two regions at run time.
 
-use crate::{emit_access, emit_clear};
+ghost use Rattle.std.specs.Prelude.{◌≡◌, ◌+◌, ◌≤◌, IfOk, IsTrue, length};
+ghost use Rattle.spec_base.specs.Layout.{is_lawful};
+ghost use Rattle.hart_mem.specs.Held.{space_of};
+ghost use Rattle.cow_regions.specs.Tables.{AreConsistent};
+
+use crate::{Fitted, Shadowed, emit_access, emit_clear, fill_copies, slot_of, used};
+use hart_mem::{Bytes, Mem};
 use rv_encode::CodeBuf;
 use spec_base::{Layout, NoMemory, Version};
 use std::alloc::Global;
@@ -194,4 +200,102 @@ fn finds_places_in_a_large_range(rt: HostRuntime) -> Result<(), Fail> {
     assert_eq!(rt; words.get(128..144), Some(JUMP.as_slice()));
     assert_eq!(rt; words.get(144..), Some(TAILS.as_slice()));
     Ok(())
+}
+
+/// A text of four words, and so many regions.
+fn small(regions: u32) -> Layout
+    ensures { result ≡ record { text_start = 0x1_0000; text_end = 0x1_0010; regions = regions; version = Version.Two } }
+{
+    Layout {
+        text_start: 0x1_0000,
+        text_end: 0x1_0010,
+        regions,
+        version: Version::Two,
+    }
+}
+
+/// A memory whose bytes from 0x20_0FFF to 0x20_1102 are 5.
+fn made(alloc: Global, regions: u32) -> Result<Mem, NoMemory>
+    requires { (1 ≤ regions) × (regions ≤ 2) }
+    ensures layout { IfOk result (λ mem. (space_of mem).layout ≡ record { text_start = 0x1_0000; text_end = 0x1_0010; regions = regions; version = Version.Two }) }
+    ensures consistent { IfOk result (λ mem. AreConsistent (space_of mem).layout (space_of mem).shared) }
+{
+    let text = vec![in alloc; 1, 2, 3, 4]?;
+    let mut mem = Mem::new(alloc, small(regions), text)?;
+    mem.fill(0x20_0FFF, &[5; 260])?;
+    Ok(mem)
+}
+
+/// Fills bytes at an address past the text.
+fn filled(mem: &mut Mem, address: u64, bytes: &[u8]) -> Fitted
+    requires lawful { IsTrue (is_lawful (space_of mem.old).layout) }
+    requires version { (space_of mem.old).layout.version ≡ Version.Two }
+    requires above { (space_of mem.old).layout.text_end ≤ address }
+    requires below { address + length bytes.now ≤ 0x4000_0000 }
+    requires some { 1 ≤ length bytes.now }
+    requires consistent { AreConsistent (space_of mem.old).layout (space_of mem.old).shared }
+    ensures layout { (space_of mem.new).layout ≡ (space_of mem.old).layout }
+    ensures consistent { AreConsistent (space_of mem.new).layout (space_of mem.new).shared }
+{
+    fill_copies(mem, address, bytes)
+}
+
+/// How many regions have copies, and the slots of two of them.
+fn slots(mem: &Mem) -> (u32, Option<u32>, Option<u32>)
+    requires version { (space_of mem.now).layout.version ≡ Version.Two }
+    requires consistent { AreConsistent (space_of mem.now).layout (space_of mem.now).shared }
+{
+    (used(mem), slot_of(mem, 0x2010), slot_of(mem, 0x2011))
+}
+
+/// The bytes before, in and behind the filled ones, and one of the text.
+fn bytes(data: &impl Bytes) -> [Option<u8>; 6] {
+    [
+        data.byte(0x20_0FFF),
+        data.byte(0x20_1000),
+        data.byte(0x20_1100),
+        data.byte(0x20_1101),
+        data.byte(0x20_1103),
+        data.byte(0x1_0000),
+    ]
+}
+
+/// The same as a shadow sees them.
+fn seen(mem: &Mem) -> [Option<u8>; 6]
+    requires { AreConsistent (space_of mem.now).layout (space_of mem.now).shared }
+{
+    bytes(&Shadowed::new(mem))
+}
+
+#[test]
+fn too_many_regions_change_nothing(rt: HostRuntime) {
+    let Ok(mut mem) = made(rt.alloc(), 1) else {
+        panic!(rt; "no memory");
+    };
+    let own = [Some(5), Some(5), Some(5), Some(5), Some(0), None];
+    assert_eq!(rt; slots(&mem), (0, None, None));
+    assert_eq!(rt; filled(&mut mem, 0x20_1000, &[7; 257]), Fitted::Full);
+    assert_eq!(rt; slots(&mem), (0, None, None));
+    assert_eq!(rt; seen(&mem), own);
+}
+
+#[test]
+fn copies_hold_what_is_filled(rt: HostRuntime) {
+    let Ok(mut mem) = made(rt.alloc(), 2) else {
+        panic!(rt; "no memory");
+    };
+    let own = [Some(5), Some(5), Some(5), Some(5), Some(0), None];
+    assert_eq!(rt; filled(&mut mem, 0x20_1000, &[7; 257]), Fitted::Done);
+    assert_eq!(rt; slots(&mem), (2, Some(1), Some(2)));
+    assert_eq!(rt;
+        seen(&mem),
+        [Some(5), Some(7), Some(7), Some(5), Some(0), None]
+    );
+    assert_eq!(rt; filled(&mut mem, 0x20_10FF, &[8, 9, 10]), Fitted::Done);
+    assert_eq!(rt; slots(&mem), (2, Some(1), Some(2)));
+    assert_eq!(rt;
+        seen(&mem),
+        [Some(5), Some(7), Some(9), Some(10), Some(0), None]
+    );
+    assert_eq!(rt; bytes(&mem), own);
 }

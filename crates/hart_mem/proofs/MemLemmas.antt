@@ -1,5 +1,5 @@
 -- A whole memory: where its bytes stand, and what a change of its pages makes of it.
-use Rattle.std.proofs.Common.{◌≡◌, ℕ, zero, suc, take, ◌+◌, ◌-◌, ◌*◌, ◌/◌, ◌%◌, ◌<◌, ◌≤◌, Bool, true, false, not, ◌&&◌, ◌||◌, ◌==◌, IsTrue, nat_lt, List, [], length, get_or, Option, Some, None, Result, Ok, Err, OnOk, OnErr, IsOk, eq-eqb, cond, refl, ap, sym, ◌∙◌, arith}
+use Rattle.std.proofs.Common.{◌≡◌, ℕ, zero, suc, take, ◌+◌, ◌-◌, ◌*◌, ◌/◌, ◌%◌, ◌<◌, ◌≤◌, Bool, true, false, not, ◌&&◌, ◌||◌, ◌==◌, IsTrue, nat_lt, List, [], length, get_or, Option, Some, None, Result, Ok, Err, OnOk, OnErr, IsOk, eq-eqb, cond, refl, ap, sym, subst, ◌∙◌, arith}
 use Rattle.std.proofs.lemmas.Bool.{false≢true}
 use Rattle.std.proofs.lemmas.Bool.Decides.{nat_tests}
 use Rattle.std.proofs.Math.Path.{fun_ext}
@@ -26,7 +26,7 @@ use Rattle.hart_mem.proofs.PageLemmas.{flat_none}
 use Rattle.hart_mem.proofs.PartLemmas.{all_from-inside, all_from-at, part_in, part_out}
 use Rattle.hart_mem.proofs.PlaceLemmas.{in_eight, width_some, width_few}
 use Rattle.hart_mem.proofs.SpaceLemmas.{spaced, data_low, program_patched}
-use Rattle.hart_mem.proofs.ViewLemmas.{loaded_view, loaded_spaced, place_inside, place_mod, range_low, sees_data, sees_text, shadow_low, shadow_page_past, store_loads, stored_view, stub_page_past}
+use Rattle.hart_mem.proofs.ViewLemmas.{loaded_view, loaded_spaced, place_inside, place_mod, range_low, seen_view, sees_data, sees_text, shadow_low, shadow_page_past, store_loads, stored_view, stub_page_past}
 
 -- ---- changes of the pages
 
@@ -75,6 +75,10 @@ module _ (h : Held) (whole : IsWhole h) where
   pub number_seen : (v : View) (a n : ℕ) → IsWidth n → a % n ≡ 0 → IsTrue (all_from (rights_of v h.layout).load a n) → (v ≡ Shadow → IsOffText h.layout a n) → loaded (flat h.pages) (place_of v h.layout a) n ≡ loaded (sees v (space_of h)) a n
   unfolding space_of
   number_seen v a n width aligned ok off = loaded_view h lawful (flat h.pages) v a n (in_eight a n width aligned) ok (width_some n width) off
+
+  pub byte_seen : (v : View) (a n : ℕ) → IsWidth n → a % n ≡ 0 → IsTrue (all_from (rights_of v h.layout).load a n) → (v ≡ Shadow → IsOffText h.layout a n) → (i : ℕ) → i < n → sees v (space_of h) (a + i) ≡ flat h.pages (place_of v h.layout a + i)
+  unfolding space_of
+  byte_seen v a n width aligned ok off = seen_view h lawful (flat h.pages) v a n (in_eight a n width aligned) ok (width_some n width) off
 
   pub text_seen : (b : ℕ) → IsTrue (in_range h.layout b) → in_text h.layout b ≡ true → text_byte h.layout h.text b ≡ sees Shadow (space_of h) b
   unfolding space_of
@@ -128,6 +132,10 @@ module _ (h : Held) (whole : IsWhole h) where
   or_not_and true s = refl
   or_not_and false s = grind (arith, nat_tests)
 
+  -- each page that the shadow stores to has a frame
+  shadow_held : (a : ℕ) → IsTrue ((rights_of Shadow h.layout).store a) → IsTrue (is_held h.pages (place_of Shadow h.layout a / 4096))
+  shadow_held a ok = whole.held (place_of Shadow h.layout a / 4096) (shadow_page_past h.layout lawful a ok) (place_inside h.layout lawful a Shadow (store_loads Shadow h.layout a ok))
+
   pub frame_found : (v : View) (a : ℕ) → IsTrue ((rights_of v h.layout).store a) → (is_held h.pages (place_of v h.layout a / 4096) || nat_lt 0 h.pages.pool.spare) ≡ not (lacks_frame v h a)
   unfolding lacks_frame
   frame_found Plain a ok = or_not_and (is_held h.pages (a / 4096)) h.pages.pool.spare
@@ -135,9 +143,7 @@ module _ (h : Held) (whole : IsWhole h) where
   frame_found Stub a ok =
       let held : IsTrue (is_held h.pages (place_of Stub h.layout a / 4096)) = whole.held (place_of Stub h.layout a / 4096) (stub_page_past h.layout lawful a ok) (place_inside h.layout lawful a Stub ok) in
       ap (λ p. p || nat_lt 0 h.pages.pool.spare) held
-  frame_found Shadow a ok =
-      let held : IsTrue (is_held h.pages (place_of Shadow h.layout a / 4096)) = whole.held (place_of Shadow h.layout a / 4096) (shadow_page_past h.layout lawful a ok) (place_inside h.layout lawful a Shadow (store_loads Shadow h.layout a ok)) in
-      ap (λ p. p || nat_lt 0 h.pages.pool.spare) held
+  frame_found Shadow a ok = ap (λ p. p || nat_lt 0 h.pages.pool.spare) (shadow_held a ok)
 
   -- a store of n bytes that the view stores
   module _ (v : View) (a n : ℕ) (width : IsWidth n) (all : IsTrue (all_from (rights_of v h.layout).store a n)) where
@@ -146,6 +152,13 @@ module _ (h : Held) (whole : IsWhole h) where
 
     pub put_found : (is_held h.pages (place_of v h.layout a / 4096) || nat_lt 0 h.pages.pool.spare) ≡ not (lacks_frame v h a)
     put_found = frame_found v a (first_right (rights_of v h.layout).store a n width all)
+
+    -- a store of the shadow takes no frame
+    pub put_kept : (s k : ℕ) → v ≡ Shadow → k ≡ cond (is_held h.pages (place_of v h.layout a / 4096)) s (s - 1) → k ≡ s
+    put_kept s k e is =
+        let first : IsTrue ((rights_of Shadow h.layout).store a) = subst (λ w. IsTrue ((rights_of w h.layout).store a)) e (first_right (rights_of v h.layout).store a n width all) in
+        let held : IsTrue (is_held h.pages (place_of v h.layout a / 4096)) = subst (λ w. IsTrue (is_held h.pages (place_of w h.layout a / 4096))) (sym e) (shadow_held a first) in
+        is ∙ ap (λ t. cond t s (s - 1)) held
 
     pub put_inside : place_of v h.layout a / 4096 < length h.pages.table
     put_inside = inside_pages v a put_loads

@@ -42,6 +42,18 @@ loaded_not_held p a n fits e =
     let page : (a + i) / 4096 ≡ a / 4096 = omega arith in
     flat_none p (a + i) (rw page e))
 
+-- the bytes there are as small as those of the frame
+pub small_held : (p : Paged) (a n k : ℕ) → a % 4096 + n ≤ 4096 → frame_of p (a / 4096) ≡ Some k → ((i : ℕ) → i < n → byte_in (bytes_at p.pool k) (a % 4096 + i) < 256) → (i : ℕ) → i < n → flat p (a + i) < 256
+small_held p a n k fits e small i l =
+    let page : (a + i) / 4096 ≡ a / 4096 = omega arith in
+    let place : (a + i) % 4096 ≡ a % 4096 + i = omega arith in
+    rw (flat_held p (a + i) k (rw page e), place) (small i l)
+
+pub small_not_held : (p : Paged) (a n : ℕ) → a % 4096 + n ≤ 4096 → frame_of p (a / 4096) ≡ None → (i : ℕ) → i < n → flat p (a + i) < 256
+small_not_held p a n fits e i l =
+    let page : (a + i) / 4096 ≡ a / 4096 = omega arith in
+    omega (arith, flat_none p (a + i) (rw page e))
+
 -- a page with a frame is one of the table
 pub is_held-inside : (p : Paged) (page : ℕ) → IsTrue (is_held p page) → page < length p.table
 is_held-inside p page held =

@@ -169,11 +169,15 @@ module _ (h : Held) (lawful : IsLawful h.layout) (m : Memory) where
   sees_place Stub b ok off = stub_seen b (in_private b) refl ok
   sees_place Shadow b ok off = shadow_seen b (in_private b) (in_range h.layout b) refl refl (off refl) ok
 
+  -- a byte of an aligned number stands at its place
+  pub seen_view : (v : View) (a n : ℕ) → a % 8 + n ≤ 8 → IsTrue (all_from (rights_of v h.layout).load a n) → 1 ≤ n → (v ≡ Shadow → IsOffText h.layout a n) → (i : ℕ) → i < n → sees v (spaced h m) (a + i) ≡ m (place_of v h.layout a + i)
+  seen_view v a n eight ok some off i l =
+      let first : IsTrue ((rights_of v h.layout).load a) = all_from-inside (rights_of v h.layout).load n a ok a (omega arith) (omega arith) in
+      sees_place v (a + i) (all_from-at (rights_of v h.layout).load n a i ok l) (λ e. off e i l) ∙ ap m (place_step h.layout lawful a v i (omega arith) first)
+
   pub loaded_view : (v : View) (a n : ℕ) → a % 8 + n ≤ 8 → IsTrue (all_from (rights_of v h.layout).load a n) → 1 ≤ n → (v ≡ Shadow → IsOffText h.layout a n) → loaded m (place_of v h.layout a) n ≡ loaded (sees v (spaced h m)) a n
   loaded_view v a n eight ok some off =
-      loaded_same m (sees v (spaced h m)) n (place_of v h.layout a) a (λ i l.
-      let first : IsTrue ((rights_of v h.layout).load a) = all_from-inside (rights_of v h.layout).load n a ok a (omega arith) (omega arith) in
-      sym (sees_place v (a + i) (all_from-at (rights_of v h.layout).load n a i ok l) (λ e. off e i l) ∙ ap m (place_step h.layout lawful a v i (omega arith) first)))
+      loaded_same m (sees v (spaced h m)) n (place_of v h.layout a) a (λ i l. sym (seen_view v a n eight ok some off i l))
 
 -- what the shadow sees of the program range
 not_private : (l : Layout) (b : ℕ) → IsTrue (in_range l b) → in_private b ≡ false

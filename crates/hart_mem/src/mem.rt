@@ -158,11 +158,13 @@ impl Mem {
         }
     }
 
-    /// The number at an address. `Unaligned` exactly where the address is no multiple of the width,
-    /// else `Out` exactly where a byte isn't one that the view loads.
+    /// The number at an address, each byte of which is below 256. `Unaligned` exactly where the
+    /// address is no multiple of the width, else `Out` exactly where a byte isn't one that the view
+    /// loads.
     pub fn load(&self, view: View, address: u64, width: Width) -> Result<u64, Access>
         ensures value { result ≡ load_answer view (space_of self.now) address (width_bytes width) }
         ensures bound { IfOk result (λ number. number < 2 ^ (8 * width_bytes width)) }
+        ensures bytes { IfOk result (λ number. (i : ℕ) → i < width_bytes width → sees view (space_of self.now) (address + i) < 256) }
     {
         let size = width.bytes() as u64;
         if address % size != 0 {
@@ -181,6 +183,7 @@ impl Mem {
         requires allowed { IsTrue (all_from (rights_of view self.now.layout).load address size) }
         ensures value { result ≡ loaded (sees view (space_of self.now)) address size }
         ensures bound { result < 2 ^ (8 * size) }
+        ensures bytes { (i : ℕ) → i < size → sees view (space_of self.now) (address + i) < 256 }
     {
         match view {
             View::Shadow => self.shadow_number(address, size),
@@ -195,6 +198,7 @@ impl Mem {
         requires allowed { IsTrue (all_from (rights_of View.Shadow self.now.layout).load address size) }
         ensures value { result ≡ loaded (sees View.Shadow (space_of self.now)) address size }
         ensures bound { result < 2 ^ (8 * size) }
+        ensures bytes { (i : ℕ) → i < size → sees View.Shadow (space_of self.now) (address + i) < 256 }
     {
         if self.layout.text_end <= address {
             return self.page_number(View::Shadow, address, size);
@@ -213,6 +217,7 @@ impl Mem {
         requires off { view ≡ View.Shadow → IsOffText self.now.layout address size }
         ensures value { result ≡ loaded (sees view (space_of self.now)) address size }
         ensures bound { result < 2 ^ (8 * size) }
+        ensures bytes { (i : ℕ) → i < size → sees view (space_of self.now) (address + i) < 256 }
     {
         let place = place_of(view, &self.layout, address);
         self.pages.load(place as usize, size as usize)
@@ -225,6 +230,7 @@ impl Mem {
         requires fits { address + size ≤ 2 ^ 64 }
         ensures value { result ≡ loaded (sees View.Shadow (space_of self.now)) address size }
         ensures bound { result < 2 ^ (8 * size) }
+        ensures bytes { (i : ℕ) → i < size → sees View.Shadow (space_of self.now) (address + i) < 256 }
     {
         let mut value: u64 = 0;
         for i in (0..size).rev() {
@@ -248,7 +254,7 @@ impl Mem {
 
     /// Stores the lowest bytes of a value. `Unaligned` and `Out` as for a load, then `NoMemory`
     /// exactly where the page of the program range has no frame and none is spare. A store that
-    /// is refused changes nothing.
+    /// is refused changes nothing, and one of the shadow takes no frame.
     #[tactic(auto, unfolding(crate::specs::Held::space_of))]
     pub fn store(
         &mut self,
@@ -262,6 +268,7 @@ impl Mem {
         ensures err { OnErr result (self.new ≡ self.old) }
         ensures short { result ≡ Err StoreFault.NoMemory → spare_of self.old ≡ 0 }
         ensures spare { (spare_of self.new ≤ spare_of self.old) × (spare_of self.old ≤ spare_of self.new + 1) }
+        ensures kept { view ≡ View.Shadow → spare_of self.new ≡ spare_of self.old }
     {
         let size = width.bytes() as u64;
         if address % size != 0 {
@@ -287,6 +294,7 @@ impl Mem {
         ensures err { result ≡ false → self.new ≡ self.old }
         ensures short { result ≡ false → spare_of self.old ≡ 0 }
         ensures spare { (spare_of self.new ≤ spare_of self.old) × (spare_of self.old ≤ spare_of self.new + 1) }
+        ensures kept { view ≡ View.Shadow → spare_of self.new ≡ spare_of self.old }
     {
         let place = place_of(view, &self.layout, address) as usize;
         if !self.pages.hold(place / 4096) {

@@ -1,6 +1,6 @@
 //! Numbers in bytes, with the lowest byte first.
 
-ghost use Rattle.std.specs.Prelude.{◌≡◌, ◌+◌, ◌*◌, ◌^◌, ◌<◌, ◌≤◌, length};
+ghost use Rattle.std.specs.Prelude.{ℕ, ◌≡◌, ◌+◌, ◌*◌, ◌^◌, ◌<◌, ◌≤◌, length};
 ghost use Rattle.rv_model.specs.Memory.{loaded};
 ghost use Rattle.hart_mem.specs.Paged.{byte_in};
 
@@ -10,6 +10,7 @@ pub(crate) fn number(bytes: &[u8], at: usize, count: usize) -> u64
     requires inside { at + count ≤ length bytes.now }
     ensures value { result ≡ loaded (byte_in bytes.now) at count }
     ensures bound { result < 2 ^ (8 * count) }
+    ensures bytes { (i : ℕ) → i < count → byte_in bytes.now (at + i) < 256 }
 {
     let mut value: u64 = 0;
     for i in (0..count).rev() {

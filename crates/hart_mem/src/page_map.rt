@@ -1,6 +1,6 @@
 //! A flat memory in pages: each page has a frame of a pool, or none and reads as zero.
 
-ghost use Rattle.std.specs.Prelude.{◌≡◌, ◌≢◌, ◌+◌, ◌-◌, ◌*◌, ◌/◌, ◌%◌, ◌^◌, ◌<◌, ◌≤◌, ◌||◌, ◌⊎◌, IsTrue, nat_lt, if◌then◌else◌, true, false, length, Err, IfOk, OnOk, OnErr};
+ghost use Rattle.std.specs.Prelude.{ℕ, ◌≡◌, ◌≢◌, ◌+◌, ◌-◌, ◌*◌, ◌/◌, ◌%◌, ◌^◌, ◌<◌, ◌≤◌, ◌||◌, ◌⊎◌, IsTrue, nat_lt, if◌then◌else◌, true, false, length, Err, IfOk, OnOk, OnErr};
 ghost use Rattle.page_pool.specs.Frames.{reserved};
 ghost use Rattle.rv_model.specs.Memory.{loaded, written};
 ghost use Rattle.hart_mem.specs.Paged.{flat, is_held, IsEmpty, AreHeld, KeepsPages, end_page, pages_touched};
@@ -114,6 +114,7 @@ impl PageMap {
         requires fits { place % 4096 + size ≤ 4096 }
         ensures value { result ≡ loaded (flat self.now) place size }
         ensures bound { result < 2 ^ (8 * size) }
+        ensures bytes { (i : ℕ) → i < size → flat self.now (place + i) < 256 }
     {
         match &self.table[place / PAGE_BYTES] {
             Some(frame) => number(self.pool.bytes(frame), place % PAGE_BYTES, size),

@@ -32,3 +32,6 @@ pub returns-clause-bound : goal.returns-clause-bound
 returns-clause-bound c =
     let whole : c.args.count - c.loop-i.i ≡ c.args.count = omega arith in
     rw (c.loop-i.invariant, whole) (loaded_fits (byte_in c.args.bytes.now) c.args.count (c.args.at + c.loop-i.i) (are_bytes _ (λ i. omega (arith, c.type_inv.bytes i))))
+
+pub returns-clause-bytes : goal.returns-clause-bytes
+returns-clause-bytes c = λ i h. are_bytes c.args.bytes.now (λ k. omega (arith, c.type_inv.bytes k)) (c.args.at + i)

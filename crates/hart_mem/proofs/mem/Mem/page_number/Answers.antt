@@ -4,7 +4,7 @@ use Rattle.rv_model.specs.Rights.{rights_of}
 use Rattle.hart_mem.specs.Paged.{flat}
 use Rattle.hart_mem.specs.contracts.mem.Mem.{the_view}
 use Rattle.hart_mem.proofs.PlaceLemmas.{width_few}
-use Rattle.hart_mem.proofs.MemLemmas.{first_right, in_page, inside_pages, number_seen}
+use Rattle.hart_mem.proofs.MemLemmas.{byte_seen, first_right, in_page, inside_pages, number_seen}
 use Rattle.hart_mem.proofs.mem.Mem.page_number.Goals as goal
 
 pub place_of-place-requires-clause-allowed : goal.place_of-place-requires-clause-allowed
@@ -32,3 +32,10 @@ returns-clause-value c =
     let all = rw (← c.self.view_is) at c.requires.allowed in
     let off = rw (← c.self.view_is) at c.requires.off in
     rw (← c.self.view_is) (c.load.ensures.value ∙ ap (λ (p : ℕ). loaded (flat c.self.inside.pages) p c.args.size) c.place_of-place.ensures ∙ number_seen (the_view c.self.inside) c.self.invariant c.args.view c.args.address c.args.size c.requires.size c.requires.aligned all off)
+
+pub returns-clause-bytes : goal.returns-clause-bytes
+returns-clause-bytes c = λ i h.
+    let all = rw (← c.self.view_is) at c.requires.allowed in
+    let off = rw (← c.self.view_is) at c.requires.off in
+    let small = rw c.place_of-place.ensures at c.load.ensures.bytes in
+    rw (← c.self.view_is, byte_seen (the_view c.self.inside) c.self.invariant c.args.view c.args.address c.args.size c.requires.size c.requires.aligned all off i h) (small i h)

@@ -5,7 +5,7 @@ use Rattle.hart_mem.specs.Held.{spare_of}
 use Rattle.hart_mem.specs.Paged.{flat, is_held}
 use Rattle.hart_mem.specs.contracts.mem.Mem.{the_view}
 use Rattle.hart_mem.proofs.PlaceLemmas.{width_few}
-use Rattle.hart_mem.proofs.MemLemmas.{no_spare, piece_stored, put_fits, put_found, put_inside, put_loads, spare_bounds, stored_space}
+use Rattle.hart_mem.proofs.MemLemmas.{no_spare, piece_stored, put_fits, put_found, put_inside, put_kept, put_loads, spare_bounds, stored_space}
 use Rattle.hart_mem.proofs.mem.Mem.put.Goals as goal
 
 pub place_of-place-requires-clause-allowed : goal.place_of-place-requires-clause-allowed
@@ -57,3 +57,10 @@ pub returns-clause-spare : goal.returns-clause-spare
 unfolding spare_of
 returns-clause-spare c =
     rw (← c.self.view_is) (spare_bounds (is_held c.self.inside.pages (c.place_of-place.result / 4096)) c.self.inside.pages.pool.spare c.write.new.self.pool.spare (c.write.ensures.spare ∙ c.hold.ensures.spare))
+
+pub returns-clause-kept : goal.returns-clause-kept
+unfolding spare_of
+returns-clause-kept c = λ shadow.
+    let all = rw (← c.self.view_is) at c.requires.allowed in
+    let after = rw c.place_of-place.ensures at (c.write.ensures.spare ∙ c.hold.ensures.spare) in
+    rw (← c.self.view_is) (put_kept (the_view c.self.inside) c.self.invariant c.args.view c.args.address c.args.size c.requires.size all c.self.inside.pages.pool.spare c.write.new.self.pool.spare shadow after)
