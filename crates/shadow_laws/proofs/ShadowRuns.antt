@@ -59,6 +59,7 @@ use Rattle.side_model.specs.Hart.{Regs}
 use Rattle.code_model.specs.Blocks.{block}
 use Rattle.rv_model.specs.Space.{program_byte}
 use Rattle.rv_decode.specs.declared.instr.Instr.TheVariants.{Ecall}
+use Rattle.shadow_laws.specs.SoundLaws.{TablesAreConsistent}
 use Rattle.shadow_laws.proofs.TextBlocks.{text}
 use Rattle.spec_base.specs.declared.park.Park.{Park}
 use Rattle.rv_decode.specs.Instruction.{instr_of}
@@ -393,6 +394,10 @@ module _ (w : World) (a : Accepted w) where
 -- the regions in use are at most the layout's
 pub regions_bounded : RegionsBounded
 regions_bounded w a ms = let y : HasTables w (watched_of (run w ms)) = has-tables w (watched_of (run w ms)) (run-keeps w a ms) in subst (λ n. n ≤ w.image.layout.regions) (sym y.has.count) y.ok.count
+
+-- the table and the list are consistent
+pub tables_consistent : TablesAreConsistent
+tables_consistent w a ms = let y : HasTables w (watched_of (run w ms)) = has-tables w (watched_of (run w ms)) (run-keeps w a ms) in record { tables = y.tables; has = y.has; ok = y.ok }
 
 -- the words of the shadow are few
 pub words_bounded : WordsBounded

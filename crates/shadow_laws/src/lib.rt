@@ -6,16 +6,18 @@
 
 ghost use Rattle.run_model.specs.OwnLaws.{RegionsBounded};
 ghost use Rattle.run_model.specs.HintLaws.{WordsBounded};
-ghost use Rattle.shadow_laws.specs.SoundLaws.{NoWordTraps};
+ghost use Rattle.shadow_laws.specs.SoundLaws.{NoWordTraps, TablesAreConsistent};
 
 /// Whatever moves are made, and whatever the outside answers: the regions in use are at most the
 /// layout's, and a shadow that isn't parked has executed at most 512 words for each of its arrivals
 /// since the restart, 8 for each region that was in use then, and 128. No word of a running shadow
-/// traps: there is one at its pc, and it goes on, stores, asks for a key or for a call, or parks.
+/// traps: there is one at its pc, and it goes on, stores, asks for a key or for a call, or parks. The
+/// region table and the region list are consistent, whatever the shadow is doing.
 pub fn shadow_is_bounded()
     ensures regions { RegionsBounded }
     ensures words { WordsBounded }
     ensures traps { NoWordTraps }
+    ensures tables { TablesAreConsistent }
 {}
 
 ghost use Rattle.shadow_laws.specs.LogLaws.{LogIsQueue, ShadowAppends, LogIsKept};
