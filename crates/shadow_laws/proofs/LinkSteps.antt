@@ -42,18 +42,12 @@ use Rattle.rows_log.specs.RestartRows.{RestartNext, word, call}
 use Rattle.rows_log.proofs.LinkLeft.{helpers-store_not, words-leave_link}
 use Rattle.rows_log.proofs.RestartWords.{restart_leads, restarted_leads}
 use Rattle.shadow_laws.proofs.ShadowNumbers.{Sized, stock_of}
-use Rattle.shadow_laws.proofs.Sound.{CallRows, bare, PadAt, at_pad, unknown, At, Sound, computing, quartering, branching, linking, going, jumping, padded, parking, guarded, loading, storing, calling, restarting, unboxing}
+use Rattle.shadow_laws.proofs.Sound.{CallRows, bare, PadAt, at_pad, unknown, At, Sound, computing, quartering, branching, linking, going, jumping, padded, parking, guarded, loading, storing, calling, restarting, unboxing, parked_running}
 use Rattle.shadow_laws.proofs.SoundSteps.{landed, pad-leads}
 use Rattle.side_model.proofs.JumpWords.{jump_leads}
+use Rattle.own_laws.proofs.Reached.{false_true, none_some}
 
 -- ---- words that aren't stores
-
--- false isn't true
-wrong : {A : Type 0} → false ≡ true → A
-wrong {A} e = absurd (no e)
-  where
-    no : false ≡ true → ⊥
-    no e = cc
 
 -- the words of JUMP, and of the pad behind it
 jump-quiet : {l : Layout} {at : ℕ} {q : Regs} {base : ℕ} {words : List Instr} {place : Place} {rs : Regs} {p : Priv} {t : Tabs} {n : ℕ} → JumpFits l at q base words → JumpRow l at q place rs p t n
@@ -107,28 +101,28 @@ module _ (w : World) (x : Answer) (r : Run) where
   store-stores (Store op rs1 rs2 imm) e =
       let a : ℕ = plus_int (reg r.shadow.registers rs1) imm in
       store_if-stores (a % store_width op == 0) (all_from (shadow_rights w.image.layout).store a (store_width op)) a (store_width op) (reg r.shadow.registers rs2)
-  store-stores (Lui rd imm) e = wrong e
-  store-stores (Auipc rd imm) e = wrong e
-  store-stores (Jal rd imm) e = wrong e
-  store-stores (Jalr rd rs1 imm) e = wrong e
-  store-stores (Branch op rs1 rs2 imm) e = wrong e
-  store-stores (Load op rd rs1 imm) e = wrong e
-  store-stores (OpImm op rd rs1 imm) e = wrong e
-  store-stores (OpImmW op rd rs1 imm) e = wrong e
-  store-stores (Op op rd rs1 rs2) e = wrong e
-  store-stores (OpW op rd rs1 rs2) e = wrong e
-  store-stores (Fence number) e = wrong e
-  store-stores Ecall e = wrong e
-  store-stores Ebreak e = wrong e
-  store-stores Hgate e = wrong e
-  store-stores Hleave e = wrong e
-  store-stores (Hsite rd) e = wrong e
-  store-stores (Hkey rd) e = wrong e
-  store-stores Hstop e = wrong e
-  store-stores Hrestart e = wrong e
-  store-stores (Hcall unhinted) e = wrong e
-  store-stores (Hpark cause) e = wrong e
-  store-stores Illegal e = wrong e
+  store-stores (Lui rd imm) e = false_true e
+  store-stores (Auipc rd imm) e = false_true e
+  store-stores (Jal rd imm) e = false_true e
+  store-stores (Jalr rd rs1 imm) e = false_true e
+  store-stores (Branch op rs1 rs2 imm) e = false_true e
+  store-stores (Load op rd rs1 imm) e = false_true e
+  store-stores (OpImm op rd rs1 imm) e = false_true e
+  store-stores (OpImmW op rd rs1 imm) e = false_true e
+  store-stores (Op op rd rs1 rs2) e = false_true e
+  store-stores (OpW op rd rs1 rs2) e = false_true e
+  store-stores (Fence number) e = false_true e
+  store-stores Ecall e = false_true e
+  store-stores Ebreak e = false_true e
+  store-stores Hgate e = false_true e
+  store-stores Hleave e = false_true e
+  store-stores (Hsite rd) e = false_true e
+  store-stores (Hkey rd) e = false_true e
+  store-stores Hstop e = false_true e
+  store-stores Hrestart e = false_true e
+  store-stores (Hcall unhinted) e = false_true e
+  store-stores (Hpark cause) e = false_true e
+  store-stores Illegal e = false_true e
 
   -- where a store leads
   step-stores : (i : Instr) → r.shadow.state ≡ Running → fetch_shadow w r.shadow.pc ≡ Some i → stores_out i ≡ true → Stores (shade_of (shadow_step w x r))
@@ -173,12 +167,9 @@ module _ (w : World) (a : Accepted w) (x : Answer) (r : Run) (z : Sized (stock_o
       parks {cause} i e b state =
           let f : Fetches w (address base at.point.place) i = code-fetches w base words at.point.place i at.code e in by_store (step-stores w x r i at.shown.running (ap (fetch_shadow w) at.shown.pc ∙ f.word) b)
         where
-          never : Running ≡ Parked cause → ⊥
-          never e = cc
-
           by_store : (after.shared ≡ r.shared) ⊎ (after.hart.state ≡ r.shadow.state) → X
           by_store (inl e) = keeps (λ b g. ap (λ (m : Memory). m b) e)
-          by_store (inr e) = absurd (never (sym at.shown.running ∙ sym e ∙ state))
+          by_store (inr e) = parked_running (sym state ∙ e ∙ at.shown.running)
 
       by_landing : (i : Instr) → code l words at.point.place ≡ Some i → stores_out i ≡ true → Landed l base Row' Arrives Why n after → X
       by_landing i e b (goes_on k s m row ok less inner v) = rows i e b s k (subst (λ m. Row' s.place s.regs s.priv s.tabs m k) (sym v.shared) row)
@@ -197,13 +188,6 @@ module _ (w : World) (a : Accepted w) (x : Answer) (r : Run) (z : Sized (stock_o
   -- the same memory leaves the link
   kept : after.shared ≡ r.shared → LeavesLink r.shared after.shared
   kept e b g = ap (λ (m : Memory). m b) e
-
-  -- no byte is known, so that the program's may be any
-  none-known : {A : Type 0} (b v : ℕ) → unknown b ≡ Some v → A
-  none-known {A} b v e = absurd (no e)
-    where
-      no : None ≡ Some v → ⊥
-      no e = cc
 
   -- ---- each row
 
@@ -241,8 +225,8 @@ module _ (w : World) (a : Accepted w) (x : Answer) (r : Run) (z : Sized (stock_o
       (λ i e b s k row. keeps (kept row.1.memory)) (λ to s y. keeps (kept y.1.memory))
   link-steps {n = n} keeps calls (storing p op rs1 rs2 imm q t0 is at) =
       stored-by keeps at
-      (store_leads l p op rs1 rs2 imm q unknown program t0 is (λ b v e. none-known b v e) n at.point.place at.point.regs at.point.priv at.point.tabs r.shared at.ok
-      (store_keeps l p op rs1 rs2 imm q unknown zeros program t0 n at.point.place at.point.regs at.point.priv at.point.tabs r.shared r.shared (λ b u g h none e. none-known b u e) (λ b g. refl) at.row))
+      (store_leads l p op rs1 rs2 imm q unknown program t0 is (λ b v e. none_some e) n at.point.place at.point.regs at.point.priv at.point.tabs r.shared at.ok
+      (store_keeps l p op rs1 rs2 imm q unknown zeros program t0 n at.point.place at.point.regs at.point.priv at.point.tabs r.shared r.shared (λ b u g h none e. none_some e) (λ b g. refl) at.row))
       (λ i e b s k row. keeps row.1.below) (λ to s y. keeps y.1.below)
   link-steps {n = n} keeps calls (calling p q is at) = calls p q is at
   link-steps {X} {n = n} keeps calls (restarting site q base words is fits at) =
@@ -252,7 +236,7 @@ module _ (w : World) (a : Accepted w) (x : Answer) (r : Run) (z : Sized (stock_o
       by_row i e b s k (word row other leaves) = keeps leaves
       by_row i e b s k (call answer answered from small is_answered row) =
           let is : Some (Hcall true) ≡ Some i = ap (code l words) (sym from) ∙ e in
-          let same : Hcall true ≡ i = cc in wrong (subst (λ (j : Instr). stores_out j ≡ true) (sym same) b)
+          let same : Hcall true ≡ i = cc in false_true (subst (λ (j : Instr). stores_out j ≡ true) (sym same) b)
   link-steps {n = n} keeps calls (unboxing site q base words is fits at) =
       stored-by keeps at (restarted_leads l site q base words program is fits n at.point.place at.point.regs at.point.priv at.point.tabs r.shared at.ok at.row)
       (λ i e b s k row. keeps (kept row.1.memory)) (λ to s y. keeps (kept (y.same).memory))

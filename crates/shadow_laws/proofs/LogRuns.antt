@@ -41,6 +41,7 @@ use Rattle.shadow_laws.proofs.OwnShades.{Watched, watched_of, OwnShade, same, li
 use Rattle.shadow_laws.proofs.ShadowNumbers.{Sized, stock_of, run-sized}
 use Rattle.shadow_laws.proofs.ShadowRuns.{has-tables, run-keeps, gate-site, run-snoc}
 use Rattle.program_model.specs.PlainRun.{State}
+use Rattle.shadow_laws.proofs.Sound.{never_running}
 
 -- ---- where the own hart is
 
@@ -381,12 +382,9 @@ module _ (w : World) (a : Accepted w) where
   start-inv =
       let head : log_head zeros ≡ 0 = zeros-loaded 0x4200_0000 8 in
       let tail : log_tail zeros ≡ 0 = zeros-loaded 0x4200_0008 8 in (
-        record { place = λ e. absurd (never e); queue = λ n. (record { order = omega (arith, head, tail); most = omega (arith, tail) }, omega (arith, tail)) },
+        record { place = λ e. never_running e; queue = λ n. (record { order = omega (arith, head, tail); most = omega (arith, tail) }, omega (arith, tail)) },
         record { order = omega (arith, head, tail); below = omega (arith, tail) },
       )
-    where
-      never : Never ≡ Running → ⊥
-      never e = cc
 
   runs-inv : (ms before : Moves) → length before + length ms < 2 ^ 64 - 1 → Inv before → Inv (before ++ ms)
   runs-inv [] before few inv = subst Inv (sym (append-nil before)) inv

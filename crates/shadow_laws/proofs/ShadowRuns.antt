@@ -50,7 +50,7 @@ use Rattle.rows_log.specs.RestartRows.{HasBox}
 use Rattle.rows_log.proofs.RestartWords.{restart_starts}
 use Rattle.shadow_laws.proofs.OwnShades.{Watched, watched_of, with_shared, begun_anew, OwnShade, same, links, halts, begins, own-shade, fetch-shade}
 use Rattle.shadow_laws.proofs.ShadowNumbers.{Sized, stock_of, run-sized}
-use Rattle.shadow_laws.proofs.Sound.{CallRows, Starts, At, calling, Sound, restarting, Standing, stands, Target, target-of, Lands, goes, reaches}
+use Rattle.shadow_laws.proofs.Sound.{CallRows, Starts, At, calling, Sound, restarting, Standing, stands, Target, target-of, Lands, goes, reaches, stopped_running, never_running, parked_running}
 use Rattle.shadow_laws.proofs.Sound as landing
 use Rattle.shadow_laws.proofs.SoundSteps.{sound-steps, sound-stays, landed, settles}
 use Rattle.shadow_laws.proofs.SoundSteps.{next as step-to}
@@ -141,13 +141,7 @@ arrived-counted w r y false e f =
     both b s h = ap (λ (z : ShadowState). is_running z && b) s ∙ h
 
 word-counted : (w : World) (x : Answer) (r : Run) (o : Option Instr) → Counted w r (word_counted (shadow_at_word w x r o))
-word-counted w x r None = record { words = refl; regions = refl; most = omega arith; arrives = λ s h. never s }
-  where
-    never : {A : Type 0} {cause : Park} → Parked cause ≡ Running → A
-    never {A} e = absurd (no e)
-      where
-        no : {cause : Park} → Parked cause ≡ Running → ⊥
-        no e = cc
+word-counted w x r None = record { words = refl; regions = refl; most = omega arith; arrives = λ s h. parked_running s }
 word-counted w x r (Some i) =
     let e : Effect = effect Shadow (shadow_rights w.image.layout) (shadow_sees w.image.layout (rewritten_words w) r.own.memory r.shared r.shadow_page) r.shadow.registers r.shadow.pc i in
     arrived-counted w r (shadow_after w x r e) _ (after-counts w x r e) refl
@@ -165,19 +159,6 @@ any_calls w p q place rs s t m n = AnyCallRow w.image.layout p q place rs s t n
 pub data Kept (w : World) (s : Watched) : Type 0 where
   runs : (n : ℕ) → Sound w (any_calls w) s.shade n → s.words + n ≤ 63 + 5 * s.regions + 228 * s.arrivals → Kept w s
   rests : (t : Tabs) → HasTabs w.image.layout s.shade.shared t → TableOk w.image.layout t → s.shade.hart.state ≢ Running → s.words ≤ 64 + 5 * s.regions + 228 * s.arrivals → Kept w s
-
--- the states are different
-parked_running : {A : Type 0} {cause : Park} → Parked cause ≡ Running → A
-parked_running {A} e = absurd (no e)
-  where
-    no : {cause : Park} → Parked cause ≡ Running → ⊥
-    no e = cc
-
-stopped_running : Stopped ≡ Running → ⊥
-stopped_running e = cc
-
-never_running : Never ≡ Running → ⊥
-never_running e = cc
 
 -- consistent tables are all that a stopped shadow needs
 pub record HasTables (w : World) (s : Watched) : Type 0 where
@@ -305,7 +286,7 @@ module _ (w : World) (a : Accepted w) where
       subst (λ s. Kept w s) (sym is) (runs n (subst (λ m. Sound w (any_calls w) (record (shade_of r) { shared = m }) n) (sym e ∙ ap (λ (s : Watched). s.shade.shared) is) h) few)
   runs-on r next n h few (takes_head v e) m is =
       subst (λ s. Kept w s) (sym is) (runs n (subst (λ m. Sound w (any_calls w) (record (shade_of r) { shared = m }) n) (sym e ∙ ap (λ (s : Watched). s.shade.shared) is) (sound-stays w a (any_calls w) (shade_of r) n v (λ p q at. at.row) h)) few)
-  runs-on r next n h few (is_stopped e) m is = absurd (stopped_running (sym e ∙ (stands w h).running))
+  runs-on r next n h few (is_stopped e) m is = stopped_running (sym e ∙ (stands w h).running)
 
   own-keeps : (r next : Run) → OwnShade r next → LeavesLink r next → (r.view ≡ Stub → next.restarts ≢ r.restarts → IsSite l r.at_gate.pc) → (next.restarts ≢ r.restarts → RestartsFromBox r next)
       → Kept w (watched_of r) → Kept w (watched_of next)
@@ -313,7 +294,7 @@ module _ (w : World) (a : Accepted w) where
   own-keeps r next (links b width v low e) link site box (runs n h few) = runs-on r next n h few link _ e
   own-keeps r next (links b width v low e) link site box (rests t has ok still few) =
       subst (λ s. Kept w s) (sym e) (rests t (HasTabs-below l (text w a).regions_few r.shared t has b width (byte_of v) low) ok still few)
-  own-keeps r next (halts e) link site box k = let y : HasTables w (watched_of r) = has-tables w (watched_of r) k in subst (λ s. Kept w s) (sym e) (rests y.tables y.has y.ok stopped_running y.few)
+  own-keeps r next (halts e) link site box k = let y : HasTables w (watched_of r) = has-tables w (watched_of r) k in subst (λ s. Kept w s) (sym e) (rests y.tables y.has y.ok (λ e. stopped_running e) y.few)
   own-keeps r next (begins v e) link site box k =
       let more : next.restarts ≡ r.restarts + 1 = ap (λ (s : Watched). s.restarts) e in
       let other : next.restarts ≢ r.restarts = λ f. absurd (omega (arith, more, f)) in
@@ -381,7 +362,7 @@ module _ (w : World) (a : Accepted w) where
       }
 
   start-kept : Kept w (watched_of (opened_run w))
-  start-kept = rests (tabs_of zeros) (HasTabs-of l zeros) none-used never_running (omega arith)
+  start-kept = rests (tabs_of zeros) (HasTabs-of l zeros) none-used (λ e. never_running e) (omega arith)
 
   -- in every run
   pub run-keeps : (ms : Moves) → Kept w (watched_of (run w ms))

@@ -2,7 +2,7 @@
 use Rattle.std.proofs.Common.{◌≡◌, ℕ, ◌+◌, ◌^◌, ◌≤◌, ◌<◌, ◌⊎◌, inl, inr, Bool, true, false, ℤ, List, [], slice_get, Option, Some, None, refl, ◌∙◌, sym, arith}
 use Rattle.spec_base.specs.Word.{plus_int}
 use Rattle.spec_base.specs.declared.layout.Layout.{Layout}
-use Rattle.spec_base.specs.declared.note.ShadowState.TheVariants.{Running, Parked}
+use Rattle.spec_base.specs.declared.note.ShadowState.TheVariants.{Never, Running, Stopped, Parked}
 use Rattle.spec_base.specs.declared.park.Park.{Park}
 use Rattle.rv_decode.specs.Encoding.{IsEncodable}
 use Rattle.rv_decode.specs.declared.instr.Instr.{Instr}
@@ -42,6 +42,7 @@ use Rattle.rows_flow.proofs.JalrWords.{jalr_starts}
 use Rattle.rows_log.specs.CallRows.{IsSite}
 use Rattle.rows_log.specs.RestartRows.{HasBox, RestartRow, RestartedRow}
 use Rattle.shadow_laws.proofs.TextBlocks.{InText, at-address, at-block, text}
+use Rattle.own_laws.proofs.Reached.{false_true}
 
 -- ---- rows
 
@@ -52,6 +53,27 @@ bare Row place rs s t m n = Row place rs s t n
 -- word 0 of a block, whatever the registers
 pub data PadAt : Place → Regs → Priv → Tabs → ℕ → Type 0 where
   at_pad : (rs : Regs) (s : Priv) {t : Tabs} {n : ℕ} → PadAt (InBlock 0) rs s t n
+
+-- a stopped shadow doesn't run
+pub stopped_running : {A : Type 0} → Stopped ≡ Running → A
+stopped_running {A} e = absurd (no e)
+  where
+    no : Stopped ≡ Running → ⊥
+    no e = cc
+
+-- nor does one that was never started
+pub never_running : {A : Type 0} → Never ≡ Running → A
+never_running {A} e = absurd (no e)
+  where
+    no : Never ≡ Running → ⊥
+    no e = cc
+
+-- nor a parked one
+pub parked_running : {A : Type 0} {cause : Park} → Parked cause ≡ Running → A
+parked_running {A} e = absurd (no e)
+  where
+    no : {cause : Park} → Parked cause ≡ Running → ⊥
+    no e = cc
 
 -- no byte of the program's memory is known
 abbrev pub unknown : ℕ → Option ℕ
@@ -110,9 +132,11 @@ pub record Standing (w : World) (h : Shade) : Type 0 where
   pub running : h.hart.state ≡ Running
 
 module _ (w : World) where
-  stands-at : {base : ℕ} {words : List Instr} {Row : Place → Regs → Priv → Tabs → Memory → ℕ → Type 0} {h : Shade} {n : ℕ} → At w base words Row h n → Standing w h
+  -- at a row of its own
+  pub stands-at : {base : ℕ} {words : List Instr} {Row : Place → Regs → Priv → Tabs → Memory → ℕ → Type 0} {h : Shade} {n : ℕ} → At w base words Row h n → Standing w h
   stands-at at = record { tables = at.point.tabs; has = at.shown.tabs; ok = at.ok; running = at.shown.running }
 
+  -- and at each
   pub stands : {C : CallRows} {h : Shade} {n : ℕ} → Sound w C h n → Standing w h
   stands (computing p i q is c at) = stands-at at
   stands (quartering p rd imm q is f at) = stands-at at
@@ -164,15 +188,9 @@ module _ (w : World) (a : Accepted w) where
           record {
             base = 0x4000_0000;
             words = [];
-            fits = record { lawful = a.lawful; small = small; place = λ m. never m; pad = λ m. never m };
+            fits = record { lawful = a.lawful; small = small; place = λ m. false_true (sym e ∙ m); pad = λ m. false_true (sym e ∙ m) };
             code = no_code w;
           }
-        where
-          never : {A : Type 0} → is_target l (even at) ≡ true → A
-          never {A} m = absurd (no (sym e ∙ m))
-            where
-              no : false ≡ true → ⊥
-              no e = cc
 
   -- ---- a block begins
 
@@ -302,10 +320,7 @@ jump-place (faults p e) = inl refl
 -- a place in a helper is the same whatever block is at hand
 pub helper-address : (base other : ℕ) (place : Place) → is_helper place ≡ true → address base place ≡ address other place
 helper-address base other (InHelper h n) e = refl
-helper-address base other (InBlock n) e = absurd (no e)
-  where
-    no : false ≡ true → ⊥
-    no e = cc
+helper-address base other (InBlock n) e = false_true e
 helper-address base other (Away a) e = refl
 
 -- the target of jal, where its pad is reached

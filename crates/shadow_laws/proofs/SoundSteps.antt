@@ -48,6 +48,7 @@ use Rattle.rows_log.proofs.RestartWords.{restart_leads, restarted_leads, box_sta
 use Rattle.shadow_laws.proofs.ShadowNumbers.{Sized, stock_of, shadow_key-small}
 use Rattle.shadow_laws.proofs.Sound.{CallRows, Starts, bare, PadAt, at_pad, unknown, At, Sound, computing, quartering, branching, linking, going, jumping, padded, parking, guarded, loading, storing, calling, restarting, unboxing, Lands, goes, reaches, halts, is_helper, jump-place, helper-address, pad-target, Target, target-of, target-block, begins}
 use Rattle.shadow_laws.proofs.TextBlocks.{InText, at-address, text}
+use Rattle.own_laws.proofs.Reached.{none_some}
 
 module _ (w : World) (a : Accepted w) where
   abbrev l : Layout
@@ -140,13 +141,6 @@ module _ (w : World) (a : Accepted w) where
             row = at_pad at.point.regs at.point.priv;
           }))
 
-      -- no byte is known, so that the program's may be any
-      stays-known : {A : Type 0} (b v : ℕ) → unknown b ≡ Some v → A
-      stays-known {A} b v e = absurd (no e)
-        where
-          no : None ≡ Some v → ⊥
-          no e = cc
-
       -- each word leads on
       pub sound-steps : {n : ℕ} → ((p : ℕ) (q : Regs) → IsSite l p → At w (block_at l p) (block l p Ecall) (C p q) (shade_of r) n → Lands w C n after)
           → Sound w C (shade_of r) n → Lands w C n after
@@ -180,10 +174,10 @@ module _ (w : World) (a : Accepted w) where
           settles
           (λ s k row v ok.
           storing p op rs1 rs2 imm q t0 is
-          (next at s v ok (store_keeps l p op rs1 rs2 imm q unknown program zeros t0 k s.place s.regs s.priv s.tabs after.shared after.shared (λ b u g h none e. stays-known b u e) (λ b g. refl) row.0)))
+          (next at s v ok (store_keeps l p op rs1 rs2 imm q unknown program zeros t0 k s.place s.regs s.priv s.tabs after.shared after.shared (λ b u g h none e. none_some e) (λ b g. refl) row.0)))
           (landed at
-          (store_leads l p op rs1 rs2 imm q unknown program t0 is (λ b v e. stays-known b v e) n at.point.place at.point.regs at.point.priv at.point.tabs r.shared at.ok
-          (store_keeps l p op rs1 rs2 imm q unknown zeros program t0 n at.point.place at.point.regs at.point.priv at.point.tabs r.shared r.shared (λ b u g h none e. stays-known b u e) (λ b g. refl) at.row)))
+          (store_leads l p op rs1 rs2 imm q unknown program t0 is (λ b v e. none_some e) n at.point.place at.point.regs at.point.priv at.point.tabs r.shared at.ok
+          (store_keeps l p op rs1 rs2 imm q unknown zeros program t0 n at.point.place at.point.regs at.point.priv at.point.tabs r.shared r.shared (λ b u g h none e. none_some e) (λ b g. refl) at.row)))
       sound-steps {n} calls (calling p q is at) = calls p q is at
       sound-steps {n} calls (restarting site q base words is fits at) =
           settles (λ s k row v ok. by_row s k row v ok)

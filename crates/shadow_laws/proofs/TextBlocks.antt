@@ -21,6 +21,7 @@ use Rattle.run_model.specs.OwnLaws.{Accepted}
 use Rattle.side_model.specs.Places.{IsBase, HasBlock}
 use Rattle.side_model.proofs.Fetching.{CodeAt, block_code}
 use Rattle.side_model.proofs.Numbers.{TextFits, text-fits}
+use Rattle.own_laws.proofs.Reached.{none_some}
 
 -- an instruction stands in the text, and its block in the shadow text
 pub record InText (w : World) (p : ℕ) (i : Instr) : Type 0 where
@@ -34,16 +35,9 @@ pub record InText (w : World) (p : ℕ) (i : Instr) : Type 0 where
 
 -- ---- blocks of a text
 
--- nothing isn't something
-nothing : {X A : Type 0} {x : X} → None ≡ Some x → A
-nothing {X} {A} {x} e = absurd (no e)
-  where
-    no : None ≡ Some x → ⊥
-    no e = cc
-
 -- the block of an instruction stands at the instruction's number
 block_of : (l : Layout) (p : ℕ) (text : List Instr) (j : ℕ) (i : Instr) → slice_get text j ≡ Some i → slice_get (blocks_from l p text) j ≡ Some (block l (p + 4 * j) i)
-block_of l p [] j i e = nothing e
+block_of l p [] j i e = none_some e
 block_of l p (x ∷ text) zero i e = let is : x ≡ i = cc in ap (λ (y : Instr). Some (block l p y)) is ∙ ap (λ (n : ℕ). Some (block l n i)) (omega arith)
 block_of l p (x ∷ text) (suc j) i e = block_of l (p + 4) text j i e ∙ ap (λ (n : ℕ). Some (block l n i)) (omega arith)
 
