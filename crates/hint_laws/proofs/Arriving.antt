@@ -26,31 +26,11 @@ use Rattle.shadow_laws.proofs.TextBlocks.{InText}
 use Rattle.mark_laws.specs.Agreement.{Agrees, SeesAlike}
 use Rattle.mark_laws.specs.Settled.{Alike}
 use Rattle.mark_laws.proofs.Numbers.{alike-same, from_restart-origin, reads-origin, marks_with-alike, settled_with-alike, before_use_with-alike}
-use Rattle.hint_laws.proofs.Within.{Doing, does, ends, goes_to, Within, computing, quartering, branching, linking, padding, going, jumping, parking, guarded, loading, storing, calling, answered, restarting, unboxing, Begun, begun, at_end, begins}
+use Rattle.hint_laws.proofs.Within.{Doing, does, ends, goes_to, Within, computing, quartering, branching, linking, padding, going, jumping, parking, guarded, loading, storing, calling, answered, restarting, unboxing, Begun, begun, at_end, begins, within-running}
 use Rattle.hint_laws.proofs.WithinSteps.{KeepsCopies, IsQuiet, Comes, flows, loads, stores, returns}
 use Rattle.hint_laws.proofs.Followed.{known, registers, regs_of, program_in, view_in, AreCopied, FilledUpTo, DoesOf, instruction, text_end, is_restart, first, Behind, Strays, Followed, works}
 use Rattle.hint_laws.proofs.WordFacts.{WordLeaves, HintsStay, word-leaves, word-hints_stay}
 use Rattle.hint_laws.proofs.Views.{are-seen}
-
--- ---- the shadow runs
-
--- whatever it is doing, it runs
-pub within-runs : {w : World} {bytes : ℕ → Option ℕ} {program : Memory} {d : Doing} {h : Shade} {n : ℕ} → Within w bytes program d h n → h.hart.state ≡ Running
-within-runs (computing p i q is c at) = at.shown.running
-within-runs (quartering p rd imm q is f at) = at.shown.running
-within-runs (branching p op rs1 rs2 imm q is at) = at.shown.running
-within-runs (linking p rd imm q is at) = at.shown.running
-within-runs (padding p rd imm q words is f at) = at.shown.running
-within-runs (going p rd rs1 imm q is at) = at.shown.running
-within-runs (jumping p rd rs1 imm q base words is fits at) = at.shown.running
-within-runs (parking p i q is c at) = at.shown.running
-within-runs (guarded q at) = at.shown.running
-within-runs (loading p op rd rs1 imm q is at) = at.shown.running
-within-runs (storing p op rs1 rs2 imm q t0 is at) = at.shown.running
-within-runs (calling p q is at before) = at.shown.running
-within-runs (answered p answer q is at) = at.shown.running
-within-runs (restarting site q base words is fits at) = at.shown.running
-within-runs (unboxing site q base words is fits at) = at.shown.running
 
 -- ---- the instruction there
 
@@ -196,7 +176,7 @@ module _ (w : World) (a : Accepted w) (x : Answer) (r : Run) where
       came = has-returned comes
 
       runs : r.shadow.state ≡ Running
-      runs = within-runs v.within
+      runs = within-running v.within
 
       stands : StandsAt (suc s) m q pt
       stands =
@@ -220,6 +200,6 @@ module _ (w : World) (a : Accepted w) (x : Answer) (r : Run) where
   pub strayed : {s : ℕ} {bytes : ℕ → Option ℕ} {program : Memory} {to : ℕ} {g : Regs} {n : ℕ} {p base : ℕ} {pt : Point} → Strays w r s bytes program to g n → Arrives p base pt → IsQuiet w r
       → IsTrue (before_use w next next.since.shadow) → Followed w next
   strayed {s} v at quiet before =
-      let runs : r.shadow.state ≡ Running = within-runs v.within in
+      let runs : r.shadow.state ≡ Running = within-running v.within in
       let count : next.since.shadow ≡ suc s = counted runs quiet at ∙ ap suc v.count in
       false_true (sym v.used ∙ sym (used-stays runs quiet s) ∙ sym (ap (before_use w next) count) ∙ before)

@@ -30,19 +30,7 @@ use Rattle.hint_laws.proofs.Halts.{stopped}
 use Rattle.hint_laws.proofs.OwnMoves.{IsFollowed, StoppingFollows, own-followed, fetch-followed}
 use Rattle.hint_laws.proofs.EachWord.{word-followed}
 use Rattle.hint_laws.proofs.Promises.{before-horizon, follows, follows_until_use}
-
--- what a running shadow has that isn't so of others
-other-running : {s : ShadowState} {A : Type 0} → s ≢ Running → s ≡ Running → A
-other-running n e = absurd (n e)
-
-stopped-other : Stopped ≢ Running
-stopped-other e = cc
-
-never-other : Never ≢ Running
-never-other e = cc
-
-parked-other : (cause : Park) → Parked cause ≢ Running
-parked-other cause e = cc
+use Rattle.shadow_laws.proofs.Sound.{never_running, stopped_running, parked_running}
 
 module _ (w : World) (a : Accepted w) where
   abbrev l : Layout
@@ -77,7 +65,7 @@ module _ (w : World) (a : Accepted w) where
         files = ap (λ (h : Shade). h.hart.files) shade;
         shared = ap (λ (h : Shade). h.shared) shade;
         memory = memory;
-      }) (ap (λ (h : Shade). h.hart.pc) shade) (λ e. stopped-other (sym (ap (λ (h : Shade). h.hart.state) shade) ∙ e)) f)
+      }) (ap (λ (h : Shade). h.hart.pc) shade) (λ e. stopped_running (sym (ap (λ (h : Shade). h.hart.state) shade) ∙ e)) f)
 
   -- ---- a word of the shadow
 
@@ -95,9 +83,9 @@ module _ (w : World) (a : Accepted w) where
 
         by_state : (s : ShadowState) → next.shadow.state ≡ s → (next.since.shadow ≡ r.since.shadow) ⊎ (next.since.shadow ≡ suc r.since.shadow)
         by_state Running e = by_place e (is_arrival l next.shadow.pc) refl
-        by_state Never e = inl (f.halts (λ g. never-other (sym e ∙ g)))
-        by_state Stopped e = inl (f.halts (λ g. stopped-other (sym e ∙ g)))
-        by_state (Parked cause) e = inl (f.halts (λ g. parked-other cause (sym e ∙ g)))
+        by_state Never e = inl (f.halts (λ g. never_running (sym e ∙ g)))
+        by_state Stopped e = inl (f.halts (λ g. stopped_running (sym e ∙ g)))
+        by_state (Parked cause) e = inl (f.halts (λ g. parked_running (sym e ∙ g)))
 
     -- where no use has come by then, none had come before
     unused-before : WordLeaves w r next → IsTrue (before_use w next next.since.shadow) → IsTrue (before_use w r r.since.shadow)
@@ -124,9 +112,9 @@ module _ (w : World) (a : Accepted w) where
 
         by_state : (s : ShadowState) → r.shadow.state ≡ s → IsFollowed w next
         by_state Running e = running-followed e
-        by_state Never e = resting Never e never-other
-        by_state Stopped e = resting Stopped e stopped-other
-        by_state (Parked cause) e = resting (Parked cause) e (parked-other cause)
+        by_state Never e = resting Never e (λ g. never_running g)
+        by_state Stopped e = resting Stopped e (λ g. stopped_running g)
+        by_state (Parked cause) e = resting (Parked cause) e (λ g. parked_running g)
 
   -- only while the own hart waits
   while-followed : (b : Bool) (x : Answer) (r : Run) → Sized (stock_of r) → ((q : State) → from_restart w r r.since.shadow ≡ Some q → TrueSizes w.files q.files) → IsFollowed w r → IsFollowed w (shadow_while b w x r)

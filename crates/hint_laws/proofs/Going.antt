@@ -24,15 +24,16 @@ use Rattle.mark_laws.proofs.Numbers.{from_restart-origin, reads-origin}
 use Rattle.mark_laws.proofs.OneInstruction.{true_false}
 use Rattle.shadow_laws.proofs.AnyCalls.{LeavesTables}
 use Rattle.shadow_laws.proofs.ShadowRuns.{resting-stays}
-use Rattle.hint_laws.proofs.Within.{Doing, goes_to, Within}
+use Rattle.hint_laws.proofs.Within.{Doing, goes_to, Within, within-running}
 use Rattle.hint_laws.proofs.WithinSteps.{Leaves, all, tables, copies, clears, Inner, IsQuiet}
 use Rattle.hint_laws.proofs.Followed.{known, program_in, view_in, AreCopied, is_storing, is_restart, inner, Works, Behind, Strays, Rests, Followed, works, behind, strays, rests}
-use Rattle.hint_laws.proofs.WordFacts.{WordLeaves, HintsStay, Parks, ParkedAt, word-leaves, word-hints_stay, word-parks, parked_running}
+use Rattle.hint_laws.proofs.WordFacts.{WordLeaves, HintsStay, Parks, ParkedAt, word-leaves, word-hints_stay, word-parks}
 use Rattle.hint_laws.proofs.WordFacts as park_at
 use Rattle.hint_laws.proofs.ParkPlaces.{IsBehindPark, behind-park, park-place}
-use Rattle.hint_laws.proofs.Spots.{inner-arrival, within-whole, within-running, park-call, going-some, going-last}
+use Rattle.hint_laws.proofs.Spots.{inner-arrival, within-whole, park-call, going-some, going-last}
 use Rattle.hint_laws.proofs.Transport.{SameBut, copied-kept, filled-same, same-marks, same-use}
 use Rattle.hint_laws.proofs.Halts.{LeftAt, here, off, works-rests, behind-rests, strays-rests}
+use Rattle.shadow_laws.proofs.Sound.{parked_running}
 
 -- ---- what the shadow has in place of the program's memory
 

@@ -23,9 +23,9 @@ use Rattle.own_laws.proofs.Reached.{none_some, false_true}
 use Rattle.mark_laws.specs.Agreement.{Agrees, SeesAlike}
 use Rattle.mark_laws.specs.Settled.{Alike, settled_with, IsCovered}
 use Rattle.mark_laws.proofs.Numbers.{alike-same, from_restart-origin, reads-origin, marks_with-alike, settled_with-alike, before_use_with-so_far, before_horizon-so_far}
-use Rattle.hint_laws.proofs.Within.{Doing, goes_to, Within}
+use Rattle.hint_laws.proofs.Within.{Doing, goes_to, Within, within-running}
 use Rattle.hint_laws.proofs.WithinSteps.{Inner}
-use Rattle.hint_laws.proofs.WithinStays.{LeavesBehindHead, entry-kept, LeavesKnown, within-stays, within-runs}
+use Rattle.hint_laws.proofs.WithinStays.{LeavesBehindHead, entry-kept, LeavesKnown, within-stays}
 use Rattle.hint_laws.proofs.Followed.{known_if, known, program_in, view_in, AreCopied, FilledUpTo, is_storing, regs_of, Spot, first, inner, Works, Behind, Strays, Stands, Rests, Followed, works, behind, strays, rests}
 
 -- what a run keeps of another: all that the shadow has, and what is counted since the restart; each byte of the program's memory that isn't covered from the shadow's instruction on; and table, list and copies, and while the shadow runs all behind the log's head
@@ -128,7 +128,7 @@ module _ (w : World) (r y : Run) (c : Carries w r y) where
       → Within w bytes program d (shade_of r) n → Within w bytes (program_in w y) d (shade_of y) n
   at-row bytes program {d} {n} same within =
       let is : shade_of y ≡ record (shade_of r) { shared = y.shared } = ap₂ (λ (hart : ShadowHart) (page : Memory). record { hart = hart; page = page; shared = y.shared }) c.shadow c.page in
-      subst (λ h. Within w bytes (program_in w y) d h n) (sym is) (within-stays w bytes program (program_in w y) (shade_of r) y.shared (c.link (within-runs w bytes program within)) same within)
+      subst (λ h. Within w bytes (program_in w y) d h n) (sym is) (within-stays w bytes program (program_in w y) (shade_of r) y.shared (c.link (within-running within)) same within)
 
   -- known bytes of a state are left in the program's memory
   leaves-known : (i : ℕ) (m : Marks) (q : State) → marks w r i ≡ m → r.since.shadow ≤ i → AreCopied w r i → LeavesKnown l r.shared (known l m q) (program_in w r) (program_in w y)

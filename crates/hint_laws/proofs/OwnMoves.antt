@@ -37,6 +37,7 @@ use Rattle.hint_laws.proofs.Followed.{Followed}
 use Rattle.hint_laws.proofs.OwnFollowed.{Carries, covered}
 use Rattle.hint_laws.proofs.OwnSince.{OwnSince, rests, counts, anew, own-since}
 use Rattle.hint_laws.proofs.Restarting.{begins-anew}
+use Rattle.shadow_laws.proofs.Sound.{stopped_running}
 
 -- the shadow follows its run, while it is to: there was a restart, the own hart hasn't been past the shadow since, each put was whole, and no use has come by the shadow's last instruction
 abbrev pub IsFollowed : World → Run → Type 0
@@ -149,10 +150,7 @@ module _ (w : World) (a : Accepted w) (ms : Moves) (x : Answer) where
   leaves-link : LeavesLink r next → r.shadow.state ≡ Running → LeavesBehindHead r.shared next.shared
   leaves-link (left e) running b h = ap (λ (m : Memory). m b) e
   leaves-link (takes_head head e) running b h = ap (λ (m : Memory). m b) e ∙ patch-outside r.shared link_start 8 (byte_of head) b (inr h)
-  leaves-link (is_stopped e) running b h = absurd (no (sym e ∙ running))
-    where
-      no : Stopped ≡ Running → ⊥
-      no e = cc
+  leaves-link (is_stopped e) running b h = stopped_running (sym e ∙ running)
 
   module _ (stopped : StoppingFollows w) (k : IsFollowed w r) (is : IsFollowing next) (unused : IsTrue (before_use w next next.since.shadow)) where
     -- a move that makes no restart, by what it does to the shadow

@@ -19,13 +19,7 @@ use Rattle.run_model.specs.OwnLaws.{Accepted}
 use Rattle.hint_laws.proofs.Within.{Doing}
 use Rattle.hint_laws.proofs.Spots.{within-whole, inner-arrival, works-call}
 use Rattle.hint_laws.proofs.Followed.{AreCopied, view_in, registers, regs_of, Spot, first, inner, Works, Behind, Strays, Stands, Rests, Followed, works, behind, strays, rests}
-
--- false isn't true
-wrong : {A : Type 0} → false ≡ true → A
-wrong {A} e = absurd (no e)
-  where
-    no : false ≡ true → ⊥
-    no e = cc
+use Rattle.own_laws.proofs.Reached.{false_true}
 
 -- a hart that has the registers of a row agrees with a state where they do
 pub agrees-shown : (m : Marks) (rs : Registers) (g : Regs) (q : State) → HasRegs rs g → Agrees m (registers g) q → Agrees m rs q
@@ -75,7 +69,7 @@ module _ (w : World) (a : Accepted w) (r : Run) where
   until-use (works s m q program d n k) free = works-hints s m q program d n k
   until-use (behind s m q to g program n k) free = behind-hints s m q to g program n k
   until-use (strays s bytes program to g n k) free =
-      let at : hinted_up_to w r ≡ suc s = up_to-made k.behind ∙ ap suc k.count in wrong (sym k.used ∙ ap (before_use w r) (sym at) ∙ free)
+      let at : hinted_up_to w r ≡ suc s = up_to-made k.behind ∙ ap suc k.count in false_true (sym k.used ∙ ap (before_use w r) (sym at) ∙ free)
   until-use (rests k) free = k.hints free
 
   -- and before the horizon
@@ -105,9 +99,9 @@ module _ (w : World) (a : Accepted w) (r : Run) where
           copied = subst (λ (i : ℕ). AreCopied w r i) (sym k.count) k.copied;
         },
       )
-      by_spot (inner at) = wrong (sym (inner-arrival w a (within-whole k.within) at) ∙ e)
-  stands (behind s m q to g program n k) e = wrong (sym (inner-arrival w a (within-whole k.within) k.place) ∙ e)
-  stands (strays s bytes program to g n k) e = wrong (sym (inner-arrival w a (within-whole k.within) k.place) ∙ e)
+      by_spot (inner at) = false_true (sym (inner-arrival w a (within-whole k.within) at) ∙ e)
+  stands (behind s m q to g program n k) e = false_true (sym (inner-arrival w a (within-whole k.within) k.place) ∙ e)
+  stands (strays s bytes program to g n k) e = false_true (sym (inner-arrival w a (within-whole k.within) k.place) ∙ e)
   stands (rests k) e = k.stands e
 
   -- the same in the words of the promise

@@ -47,11 +47,11 @@ use Rattle.mark_laws.proofs.Changes.{from_restart-next}
 use Rattle.mark_laws.proofs.Horizons.{and_right, not_true}
 use Rattle.mark_laws.proofs.Numbers.{from_restart-origin, reads-origin, marks_with-alike, settled_with-alike}
 use Rattle.mark_laws.proofs.OneInstruction.{unmarked-register, flow_agrees, load_agrees, store_agrees}
-use Rattle.hint_laws.proofs.Within.{Doing, does, ends, restarts, goes_to, known_from}
+use Rattle.hint_laws.proofs.Within.{Doing, does, ends, restarts, goes_to, known_from, within-running}
 use Rattle.hint_laws.proofs.WithinSteps.{KeepsCopies, IsQuiet, Comes, flows, loads, stores, returns}
 use Rattle.hint_laws.proofs.Followed.{known, registers, program_in, view_in, AreCopied, DoesOf, instruction, text_end, restart, Works, Followed}
 use Rattle.hint_laws.proofs.Views.{known-number, stored-seen, has-registers, agrees-as, no_rights, IsFlow, flow-is}
-use Rattle.hint_laws.proofs.Arriving.{within-runs, Arrives, StandsAt, follows-there, leaves, stays, counted, alike, view-stays, filled-stays, used-stays, keeps-all}
+use Rattle.hint_laws.proofs.Arriving.{Arrives, StandsAt, follows-there, leaves, stays, counted, alike, view-stays, filled-stays, used-stays, keeps-all}
 
 -- one of two tests passes
 one_of : (b c : Bool) → (b || c) ≡ true → (b ≡ true) ⊎ (c ≡ true)
@@ -87,7 +87,7 @@ module _ (w : World) (a : Accepted w) (x : Answer) (r : Run) where
 
   module _ {s : ℕ} {m : Marks} {q : State} {program : Memory} {d : Doing} {n : ℕ} (v : Works w r s m q program d n) (quiet : IsQuiet w r) (i : Instr) (word : instr_at w.image q ≡ Some i) where
     runs : r.shadow.state ≡ Running
-    runs = within-runs v.within
+    runs = within-running v.within
 
     -- whether its read is filled, if it is one
     abbrev filled : Bool
@@ -168,7 +168,7 @@ module _ (w : World) (a : Accepted w) (x : Answer) (r : Run) where
       (subst (λ (z : ℕ). effect Plain (data_rights l) seen (registers g) z i ≡ Next gone.registers target) pc gone.next) in
       follows-there w a x r
       (stands v quiet i word at y.leads gone.shown
-      (subst (λ (z : Memory). SeesAlike l (behind_marks v quiet i word) z y.leads.state) (sym (view-stays w a x r (within-runs v.within) quiet same)) (y.sees seen (v.sees refl (inl (flow.no_store p g)))))
+      (subst (λ (z : Memory). SeesAlike l (behind_marks v quiet i word) z y.leads.state) (sym (view-stays w a x r (within-running v.within) quiet same)) (y.sees seen (v.sees refl (inl (flow.no_store p g)))))
       (copied-behind v quiet i word (keeps-all w a x r same) (λ b e. false_true (sym (ap (λ (act : Action). settles act (filled v quiet i word) b) flow.other) ∙ e)))
       (ap read_in flow.other))
       y.leads.pc at
@@ -191,7 +191,7 @@ module _ (w : World) (a : Accepted w) (x : Answer) (r : Run) where
       (known-number l m q from (load_width op) arrives.number inside given) in
       follows-there w a x r
       (stands v quiet i word at y.leads (subst (λ (z : Regs). HasRegs new z) (sym arrives.registers) (HasRegs-put (registers g) g rd (extended op arrives.number) (has-registers g)))
-      (subst (λ (z : Memory). SeesAlike l (behind_marks v quiet i word) z y.leads.state) (sym (view-stays w a x r (within-runs v.within) quiet shared)) (y.sees (view_in r) (v.sees refl (inl refl))))
+      (subst (λ (z : Memory). SeesAlike l (behind_marks v quiet i word) z y.leads.state) (sym (view-stays w a x r (within-running v.within) quiet shared)) (y.sees (view_in r) (v.sees refl (inl refl))))
       (copied-behind v quiet i word (keeps-all w a x r shared) (λ b e. false_true e)) refl)
       (y.leads.pc ∙ next-word q pc arrives.next at.block.below) at
 
@@ -237,7 +237,7 @@ module _ (w : World) (a : Accepted w) (x : Answer) (r : Run) where
 
       seen : SeesAlike l (behind_marks v quiet i word) (view_in next) y.leads.state
       seen =
-          subst (λ (memory : Memory). SeesAlike l (behind_marks v quiet i word) (shadowed next.shared memory) y.leads.state) (sym (ap (λ o. o.memory) (leaves w a x r (within-runs v.within) quiet).own))
+          subst (λ (memory : Memory). SeesAlike l (behind_marks v quiet i word) (shadowed next.shared memory) y.leads.state) (sym (ap (λ o. o.memory) (leaves w a x r (within-running v.within) quiet).own))
           (subst (λ (z : ℕ). SeesAlike l (mark_bytes m z width (m.registers rs2)) (shadowed next.shared r.own.memory) y.leads.state) in_state
           (stored-seen l m (rewritten_words w) r.own.memory next.shared q y.leads.state pt.tabs to width (get rs2 g) (m.registers rs2) at.shown.tabs arrives.viewed alike_there))
 

@@ -62,24 +62,6 @@ within-whole (answered p answer q is at) = omega (arith, is.whole)
 within-whole (restarting site q base words is fits at) = tt
 within-whole (unboxing site q base words is fits at) = omega (arith, is.whole)
 
--- and it runs
-pub within-running : {w : World} {bytes : ℕ → Option ℕ} {program : Memory} {d : Doing} {h : Shade} {n : ℕ} → Within w bytes program d h n → h.hart.state ≡ Running
-within-running (computing p i q is c at) = at.shown.running
-within-running (quartering p rd imm q is f at) = at.shown.running
-within-running (branching p op rs1 rs2 imm q is at) = at.shown.running
-within-running (linking p rd imm q is at) = at.shown.running
-within-running (padding p rd imm q words is f at) = at.shown.running
-within-running (going p rd rs1 imm q is at) = at.shown.running
-within-running (jumping p rd rs1 imm q base words is fits at) = at.shown.running
-within-running (parking p i q is c at) = at.shown.running
-within-running (guarded q at) = at.shown.running
-within-running (loading p op rd rs1 imm q is at) = at.shown.running
-within-running (storing p op rs1 rs2 imm q t0 is at) = at.shown.running
-within-running (calling p q is at before) = at.shown.running
-within-running (answered p answer q is at) = at.shown.running
-within-running (restarting site q base words is fits at) = at.shown.running
-within-running (unboxing site q base words is fits at) = at.shown.running
-
 -- whether it is on its way to a block, behind a call
 abbrev pub is_going : Doing → Bool
 is_going (goes_to to q) = true

@@ -31,9 +31,9 @@ use Rattle.rows_log.specs.RestartRows.{IsFresh}
 use Rattle.rows_log.proofs.PlannedReads.{data-region}
 use Rattle.mark_laws.specs.Agreement.{SeesAlike}
 use Rattle.mark_laws.specs.Sizes.{TrueSizes}
-use Rattle.hint_laws.proofs.Within.{Doing, does, ends, restarts, goes_to, Within}
+use Rattle.hint_laws.proofs.Within.{Doing, does, ends, restarts, goes_to, Within, within-stands, within-running}
 use Rattle.hint_laws.proofs.WithinSteps.{Inner, Turns, asks, asks_again}
-use Rattle.hint_laws.proofs.WithinFacts.{within-stands, recast, within-answer, IsEarly, within-early}
+use Rattle.hint_laws.proofs.WithinFacts.{recast, within-answer, IsEarly, within-early}
 use Rattle.hint_laws.proofs.Followed.{known, view_in, program_in, DoesOf, instruction, text_end, restart, Works, Followed, behind, strays}
 use Rattle.hint_laws.proofs.CallTurns.{AtCall, call-leaves, call-use, call-agrees, call-state, call-files, call-sees, call-registers, call-copied, call-filled, call-unused, call-hinted, call-unhinted, call-does, stray-hints}
 
@@ -255,7 +255,7 @@ module _ (w : World) (accepted : Accepted w) (x : Answer) (r : Run) (sizes : (q 
   pub turned : {s : ℕ} {m : Marks} {q : State} {program : Memory} {d : Doing} {n : ℕ} → Works w r s m q program d n → (to : ℕ) (new : Regs) → Turns w r to new d
       → {bytes : ℕ → Option ℕ} {k : ℕ} → Within w bytes (program_in w r) (goes_to to new) (shade_of next) k → Inner w.image.layout next.shadow.pc (goes_to to new) → Followed w next
   turned {s} {m} {q} works to new (asks {p = p} {q = g} answer fetches at has is_next is_new) {bytes} {k} within place =
-      let runs : next.shadow.state ≡ Running = let stands = within-stands w within in stands.running in
+      let runs : next.shadow.state ≡ Running = within-running within in
       let is : (p ≡ q.pc) × (instr_at w.image q ≡ Some Ecall) = is-call works.doing in
       let c : AtCall w r s m q g false =
       record {
@@ -271,7 +271,7 @@ module _ (w : World) (accepted : Accepted w) (x : Answer) (r : Run) (sizes : (q 
         copied = works.copied;
         filled = works.filled;
         fetches = fetches;
-        stands = within-stands w works.within;
+        stands = within-stands works.within;
       } in
       let does = call-does w accepted x r s m q g false c runs (shadow_plan w r) refl in
       let site : BehindSite w accepted next.shadow.pc =
@@ -286,7 +286,7 @@ module _ (w : World) (accepted : Accepted w) (x : Answer) (r : Run) (sizes : (q 
       goes-on c runs to new target within place site.no_arrival (inl site.call) answered others hints unused)
       (λ used. goes-astray c runs to new target within place site.no_arrival site.call refl (works.later refl) works.hints used)
   turned {s} {m} {q} works to new (asks_again {site = site} {q = g} answer rs t fetches has loaded tabs fresh is_next is_answered) {bytes} {k} within place =
-      let runs : next.shadow.state ≡ Running = let stands = within-stands w within in stands.running in
+      let runs : next.shadow.state ≡ Running = within-running within in
       let is : (site ≡ q.pc) × (instr_at w.image q ≡ Some Ecall) = is-call works.doing in
       let anew : (s ≡ 0) × (r.own.memory ≡ q.memory) = works.anew refl in
       let c : AtCall w r s m q g true =
@@ -303,7 +303,7 @@ module _ (w : World) (accepted : Accepted w) (x : Answer) (r : Run) (sizes : (q 
         copied = works.copied;
         filled = works.filled;
         fetches = fetches;
-        stands = within-stands w works.within;
+        stands = within-stands works.within;
       } in
       let does = call-does w accepted x r s m q g true c runs (shadow_plan w r) refl in
       let from : IsEarly r.shadow.pc = within-early w (known w.image.layout m q) _ works.within in

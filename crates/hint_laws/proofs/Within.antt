@@ -40,8 +40,9 @@ use Rattle.rows_flow.proofs.JalrWords.{jalr_starts}
 use Rattle.rows_log.specs.CallRows.{IsSite}
 use Rattle.rows_log.specs.RestartRows.{HasBox, RestartRow, RestartedRow}
 use Rattle.shadow_laws.proofs.AnyCalls.{AnyCallRow, b1, is_seventh}
-use Rattle.shadow_laws.proofs.Sound.{At, bare}
+use Rattle.shadow_laws.proofs.Sound.{At, bare, Standing, stands-at}
 use Rattle.shadow_laws.proofs.TextBlocks.{InText, at-block}
+use Rattle.spec_base.specs.declared.note.ShadowState.TheVariants.{Running}
 
 -- ---- what is known
 
@@ -109,6 +110,28 @@ pub data Within (w : World) (bytes : ℕ → Option ℕ) (program : Memory) : Do
       → At w base words (λ place rs s t m k. RestartRow w.image.layout site q place rs s t k × HasBox m site q) h n → Within w bytes program (restarts site q) h n
   unboxing : {h : Shade} {n : ℕ} (site : ℕ) (q : Regs) (base : ℕ) (words : List Instr) → IsSite w.image.layout site → JumpFits w.image.layout (site + 4) q base words
       → At w base words (bare (RestartedRow w.image.layout site q)) h n → Within w bytes program (goes_to (site + 4) q) h n
+
+-- in each row the shadow runs, and the tables are consistent
+pub within-stands : {w : World} {bytes : ℕ → Option ℕ} {program : Memory} {d : Doing} {h : Shade} {n : ℕ} → Within w bytes program d h n → Standing w h
+within-stands {w} (computing p i q is c at) = stands-at w at
+within-stands {w} (quartering p rd imm q is f at) = stands-at w at
+within-stands {w} (branching p op rs1 rs2 imm q is at) = stands-at w at
+within-stands {w} (linking p rd imm q is at) = stands-at w at
+within-stands {w} (padding p rd imm q words is f at) = stands-at w at
+within-stands {w} (going p rd rs1 imm q is at) = stands-at w at
+within-stands {w} (jumping p rd rs1 imm q base words is fits at) = stands-at w at
+within-stands {w} (parking p i q is c at) = stands-at w at
+within-stands {w} (guarded q at) = stands-at w at
+within-stands {w} (loading p op rd rs1 imm q is at) = stands-at w at
+within-stands {w} (storing p op rs1 rs2 imm q t0 is at) = stands-at w at
+within-stands {w} (calling p q is at before) = stands-at w at
+within-stands {w} (answered p answer q is at) = stands-at w at
+within-stands {w} (restarting site q base words is fits at) = stands-at w at
+within-stands {w} (unboxing site q base words is fits at) = stands-at w at
+
+-- it runs
+pub within-running : {w : World} {bytes : ℕ → Option ℕ} {program : Memory} {d : Doing} {h : Shade} {n : ℕ} → Within w bytes program d h n → h.hart.state ≡ Running
+within-running within = (within-stands within).running
 
 -- ---- a block begins
 

@@ -97,27 +97,3 @@ module _ (w : World) (bytes : ℕ → Option ℕ) (program program' : Memory) (h
   within-stays same (restarting site q base words is fits at) =
       restarting site q base words is fits (stays-at at (at.row.0, box_stays h.shared m site q (λ b g i. leaves b (omega arith)) at.row.1))
   within-stays same (unboxing site q base words is fits at) = unboxing site q base words is fits (stays-at at at.row)
-
--- ---- it runs
-
-module _ (w : World) (bytes : ℕ → Option ℕ) (program : Memory) where
-  runs-at : {base : ℕ} {words : List Instr} {Row : Place → Regs → Priv → Tabs → Memory → ℕ → Type 0} {h : Shade} {n : ℕ} → At w base words Row h n → h.hart.state ≡ Running
-  runs-at at = at.shown.running
-
-  -- a shadow at a row runs
-  pub within-runs : {d : Doing} {h : Shade} {n : ℕ} → Within w bytes program d h n → h.hart.state ≡ Running
-  within-runs (computing p i q is c at) = runs-at at
-  within-runs (quartering p rd imm q is f at) = runs-at at
-  within-runs (branching p op rs1 rs2 imm q is at) = runs-at at
-  within-runs (linking p rd imm q is at) = runs-at at
-  within-runs (padding p rd imm q words is f at) = runs-at at
-  within-runs (going p rd rs1 imm q is at) = runs-at at
-  within-runs (jumping p rd rs1 imm q base words is fits at) = runs-at at
-  within-runs (parking p i q is c at) = runs-at at
-  within-runs (guarded q at) = runs-at at
-  within-runs (loading p op rd rs1 imm q is at) = runs-at at
-  within-runs (storing p op rs1 rs2 imm q t0 is at) = runs-at at
-  within-runs (calling p q is at before) = runs-at at
-  within-runs (answered p answer q is at) = runs-at at
-  within-runs (restarting site q base words is fits at) = runs-at at
-  within-runs (unboxing site q base words is fits at) = runs-at at

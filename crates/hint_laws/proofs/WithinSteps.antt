@@ -60,6 +60,8 @@ use Rattle.shadow_laws.proofs.Sound.{At, bare, is_helper, jump-place, Target, ta
 use Rattle.shadow_laws.proofs.SoundSteps.{landed}
 use Rattle.shadow_laws.proofs.TextBlocks.{InText, at-address}
 use Rattle.hint_laws.proofs.Within.{known_from, AreSeen, Doing, does, ends, restarts, goes_to, joined, BehindRow, behind, Within, computing, quartering, branching, linking, padding, going, jumping, parking, guarded, loading, storing, calling, answered, restarting, unboxing}
+use Rattle.own_laws.proofs.Reached.{false_true}
+use Rattle.mark_laws.proofs.OneInstruction.{true_false}
 
 -- ---- what a word leaves
 
@@ -159,33 +161,27 @@ record AtHcall (l : Layout) (q rs : Regs) (t : Tabs) : Type 0 where
   loaded : AreLoaded 30 q rs
   fresh : IsFresh l t
 
--- false isn't true
-wrong : {A : Type 0} → false ≡ true → A
-wrong {A} e = absurd (no e)
-  where
-    no : false ≡ true → ⊥
-    no e = cc
-
+-- at the HCALL the registers of the box are loaded, and the table is fresh
 at-hcall : {l : Layout} {site : ℕ} {q : Regs} {place : Place} {rs : Regs} {s : Priv} {t : Tabs} {n : ℕ} → RestartRow l site q place rs s t n → is_hcall place ≡ true → AtHcall l q rs t
 at-hcall (r48 s fresh loaded) e = record { loaded = loaded; fresh = fresh }
 at-hcall (r18-47 k s less fresh x31 loaded) e = absurd (grind (arith, nat_tests, less, e))
-at-hcall (r1 s) e = wrong e
-at-hcall (r2 s) e = wrong e
-at-hcall (r3 s) e = wrong e
-at-hcall (r4 s) e = wrong e
-at-hcall (r5 s) e = wrong e
-at-hcall (r6 j s h c) e = wrong e
-at-hcall (r7 j s h c) e = wrong e
-at-hcall (r8 j s h c) e = wrong e
-at-hcall (r9 j s h c) e = wrong e
-at-hcall (r10 j s h c) e = wrong e
-at-hcall (r11 s c) e = wrong e
-at-hcall (r12 s f) e = wrong e
-at-hcall (r13 s f) e = wrong e
-at-hcall (r14 s f) e = wrong e
-at-hcall (r15 s f) e = wrong e
-at-hcall (r16 s f) e = wrong e
-at-hcall (r17 s f) e = wrong e
+at-hcall (r1 s) e = false_true e
+at-hcall (r2 s) e = false_true e
+at-hcall (r3 s) e = false_true e
+at-hcall (r4 s) e = false_true e
+at-hcall (r5 s) e = false_true e
+at-hcall (r6 j s h c) e = false_true e
+at-hcall (r7 j s h c) e = false_true e
+at-hcall (r8 j s h c) e = false_true e
+at-hcall (r9 j s h c) e = false_true e
+at-hcall (r10 j s h c) e = false_true e
+at-hcall (r11 s c) e = false_true e
+at-hcall (r12 s f) e = false_true e
+at-hcall (r13 s f) e = false_true e
+at-hcall (r14 s f) e = false_true e
+at-hcall (r15 s f) e = false_true e
+at-hcall (r16 s f) e = false_true e
+at-hcall (r17 s f) e = false_true e
 
 -- ---- places of rows
 
@@ -282,10 +278,7 @@ module _ (l : Layout) (program : Memory) (base : ℕ) (Row : Place → Regs → 
 
 -- an instruction that is no HCALL there is no HCALL
 no-call-word : (base : ℕ) (i : Instr) (s : Point) (m : Memory) → is_calls (exec base i s m) ≡ false → is_call_word (Some i) ≡ false
-no-call-word base (Hcall unhinted) s m e = absurd (no e)
-  where
-    no : true ≡ false → ⊥
-    no e = cc
+no-call-word base (Hcall unhinted) s m e = true_false e
 no-call-word base (Lui rd imm) s m e = refl
 no-call-word base (Auipc rd imm) s m e = refl
 no-call-word base (Jal rd imm) s m e = refl
@@ -313,6 +306,7 @@ no-call-word base Illegal s m e = refl
 abbrev raised : Memory → Memory
 raised m b = m b + 1
 
+-- so none is left as it was
 not-raised : (m : Memory) (b : ℕ) → raised m b ≡ m b → ⊥
 not-raised m b e = omega (arith, e)
 
@@ -393,16 +387,16 @@ module _ (w : World) (a : Accepted w) (x : Answer) (r : Run) (z : Sized (stock_o
       by_place : (place : Place) → is_inner place ≡ true → (is_ecall (Some i) ≡ false) ⊎ (is_seventh place ≡ false) → after.hart.pc ≡ address (block_at l p) place → Inner l after.hart.pc (does p i q)
       by_place (InBlock n) e h f = in_block n (grind (arith, nat_tests, e)) (grind (arith, nat_tests, e)) (seventh-no (is_ecall (Some i)) (n == 7) h) f
       by_place (InHelper k n) e h f = in_helper (subst (λ a. nat_le helpers_start a ≡ true) (sym f) (grind (arith, nat_tests)))
-      by_place (Away b) e h f = wrong e
+      by_place (Away b) e h f = false_true e
 
   -- a place in a helper, or at word 0 of a block
   inner-pad : {d : Doing} (base : ℕ) (s : Point) → IsBase base → (is_helper s.place ≡ true) ⊎ (s.place ≡ InBlock 0) → Sees l base after s after.shared → Inner l after.hart.pc d
   inner-pad {d} base s b (inl h) v = by_place s.place h v.pc
     where
       by_place : (place : Place) → is_helper place ≡ true → after.hart.pc ≡ address base place → Inner l after.hart.pc d
-      by_place (InBlock n) e f = wrong e
+      by_place (InBlock n) e f = false_true e
       by_place (InHelper k n) e f = in_helper (subst (λ a. nat_le helpers_start a ≡ true) (sym f) (grind (arith, nat_tests)))
-      by_place (Away b) e f = wrong e
+      by_place (Away b) e f = false_true e
   inner-pad {d} base s b (inr e) v = at_pad (omega (arith, v.pc, ap (address base) e, b.whole))
 
   -- a flow's word
@@ -525,7 +519,7 @@ module _ (w : World) (a : Accepted w) (x : Answer) (r : Run) (z : Sized (stock_o
   within-leads {n = n} sees (parking p i q is c at) =
       flow at (λ s k inner row v ok. (parking p i q is c (next at s v ok row), inner-at s inner (inl (stops-no_call c)) v)) (park_leads l p i q program is c n at.point.place at.point.regs at.point.priv at.point.tabs r.shared at.ok at.row)
   within-leads {n = n} sees (guarded q at) =
-      settles (λ s k less inner row v ok. wrong (sym (park-first row.0) ∙ inner)) (λ p s y has. absurd y) (λ cause t m why. leaves_text why.0)
+      settles (λ s k less inner row v ok. false_true (sym (park-first row.0) ∙ inner)) (λ p s y has. absurd y) (λ cause t m why. leaves_text why.0)
       (landed w a x r z at (guard_leads l q program n at.point.place at.point.regs at.point.priv at.point.tabs r.shared at.ok at.row))
   within-leads {n = n} sees (loading p op rd rs1 imm q is at) =
       let given : Option ℕ = known_from bytes (plus_int (get rs1 q) imm) (load_width op) in
@@ -545,15 +539,15 @@ module _ (w : World) (a : Accepted w) (x : Answer) (r : Run) (z : Sized (stock_o
       (λ p s y has. (stores t0 y.0 (copies-kept at.point.tabs s.tabs r.shared after.shared at.shown.tabs has y.1.copies), quiet)) (λ cause t m why. store_parks bytes t0 why.0) (landed w a x r z at d)
   within-leads {n = n} sees (calling p q is at before) =
       let d = any_call-leads l p q program is r.shared at.ok at.row in
-      settles (λ s k less inner row v ok. called p q is at before (quiet d) s k less inner row v ok) (λ p s y has. wrong (sym before ∙ y)) (λ cause t m why. call_parks) (landed w a x r z at d)
+      settles (λ s k less inner row v ok. called p q is at before (quiet d) s k less inner row v ok) (λ p s y has. false_true (sym before ∙ y)) (λ cause t m why. call_parks) (landed w a x r z at d)
     where
       stays-so : {rs : Regs} {place : Place} {s : Priv} {t : Tabs} {m : Memory} {k : ℕ} → is_sixth at.point.place ≡ false → AnyCallNext l p q at.point.place at.point.tabs r.shared place rs s t m k → LeavesTables r.shared m
       stays-so e (any.word row first other leaves) = leaves
-      stays-so e (any.call answer from) = wrong (sym e ∙ ap is_sixth from)
+      stays-so e (any.call answer from) = false_true (sym e ∙ ap is_sixth from)
 
       quiet : Led l program (block_at l p) (AnyCallNext l p q at.point.place at.point.tabs r.shared) (λ target rs t m. is_seventh at.point.place ≡ true) (λ cause t m. ⊤) n (exec_some (block_at l p) (code l (block l p Ecall) at.point.place) at.point r.shared)
           → is_sixth at.point.place ≡ false → IsQuiet w r
-      quiet d e = quiet-by at (LeavesTables r.shared) (λ f. not-raised r.shared table_start (f table_start (omega arith))) (λ s m k row. stays-so e row) (λ p s m y. wrong (sym before ∙ y)) d
+      quiet d e = quiet-by at (LeavesTables r.shared) (λ f. not-raised r.shared table_start (f table_start (omega arith))) (λ s m k row. stays-so e row) (λ p s m y. false_true (sym before ∙ y)) d
   within-leads {n = n} sees (answered p answer q is at) = behind-call p answer q is at
   within-leads {n = n} sees (restarting site q base words is fits at) =
       let d = restart_leads l site q base words program is n at.point.place at.point.regs at.point.priv at.point.tabs r.shared at.ok at.row.1 at.row.0 in
@@ -561,7 +555,7 @@ module _ (w : World) (a : Accepted w) (x : Answer) (r : Run) (z : Sized (stock_o
     where
       stays-so : {rs : Regs} {place : Place} {s : Priv} {t : Tabs} {m : Memory} {k : ℕ} → is_hcall at.point.place ≡ false → RestartNext l site q at.point.place r.shared place rs s t m k → (b : ℕ) → b < table_start → m b ≡ r.shared b
       stays-so e (word row first leaves) = leaves
-      stays-so e (call answer new from small is_answered row) = wrong (sym e ∙ ap is_hcall from)
+      stays-so e (call answer new from small is_answered row) = false_true (sym e ∙ ap is_hcall from)
 
       quiet : Led l program base (RestartNext l site q at.point.place r.shared) (λ target rs t m. ⊥) (λ cause t m. ⊥) n (exec_some base (code l words at.point.place) at.point r.shared) → is_hcall at.point.place ≡ false → IsQuiet w r
       quiet d e = quiet-by at (λ m. (b : ℕ) → b < table_start → m b ≡ r.shared b) (λ f. not-raised r.shared 0 (f 0 (lit< tt))) (λ s m k row. stays-so e row) (λ p s m y. absurd y) d

@@ -23,6 +23,7 @@ use Rattle.run_model.specs.Run.{World, Run, ShadowHart, Answer, Usual, Took, Fai
 use Rattle.run_model.specs.ShadowMoves.{fetch_shadow, is_running, is_arrival, is_call_word, shadow_at, parked, arrived_if, word_counted, shadow_plan, assumed, assumed_with, look_assumed, hint_given, fill, fill_if, is_filled, shadow_stores, shadow_after, shadow_at_word, shadow_in, shadow_step}
 use Rattle.own_laws.proofs.Reached.{false_true}
 use Rattle.mark_laws.specs.Agreement.{assumed_answer, is_exit, is_read}
+use Rattle.shadow_laws.proofs.Sound.{parked_running}
 
 -- ---- what a word is said to do
 
@@ -95,14 +96,7 @@ CallDoes w u r next = PlanDoes w u r next (shadow_plan w r)
 
 -- ---- what can't be
 
--- a parked shadow doesn't run
-pub parked_running : {A : Type 0} {cause : Park} → Parked cause ≡ Running → A
-parked_running {A} e = absurd (no e)
-  where
-    no : {cause : Park} → Parked cause ≡ Running → ⊥
-    no e = cc
-
--- nor is a running one parked
+-- a running shadow isn't parked
 running_parked : {A : Type 0} {cause : Park} {s : ShadowState} → s ≡ Running → s ≡ Parked cause → A
 running_parked e f = parked_running (sym f ∙ e)
 
