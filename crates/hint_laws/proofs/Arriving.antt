@@ -19,14 +19,14 @@ use Rattle.side_model.specs.Hart.{Regs}
 use Rattle.side_model.specs.Tables.{Tabs, TableOk}
 use Rattle.side_model.specs.Places.{address, HasBlock}
 use Rattle.side_model.specs.Words.{Point}
-use Rattle.side_model.specs.Sees.{Shade, shade_of, Sees, HasRegs}
+use Rattle.side_model.specs.Sees.{shade_of, Sees, HasRegs}
 use Rattle.own_laws.proofs.Reached.{false_true}
 use Rattle.shadow_laws.proofs.ShadowRuns.{block-arrives}
 use Rattle.shadow_laws.proofs.TextBlocks.{InText}
 use Rattle.mark_laws.specs.Agreement.{Agrees, SeesAlike}
 use Rattle.mark_laws.specs.Settled.{Alike}
 use Rattle.mark_laws.proofs.Numbers.{alike-same, from_restart-origin, reads-origin, marks_with-alike, settled_with-alike, before_use_with-alike}
-use Rattle.hint_laws.proofs.Within.{Doing, does, ends, goes_to, Within, computing, quartering, branching, linking, padding, going, jumping, parking, guarded, loading, storing, calling, answered, restarting, unboxing, Begun, begun, at_end, begins, within-running}
+use Rattle.hint_laws.proofs.Within.{Doing, does, ends, goes_to, Within, Begun, begun, at_end, begins, within-running}
 use Rattle.hint_laws.proofs.WithinSteps.{KeepsCopies, IsQuiet, Comes, flows, loads, stores, returns}
 use Rattle.hint_laws.proofs.Followed.{known, registers, regs_of, program_in, view_in, AreCopied, FilledUpTo, DoesOf, instruction, text_end, is_restart, first, Behind, Strays, Followed, works}
 use Rattle.hint_laws.proofs.WordFacts.{WordLeaves, HintsStay, word-leaves, word-hints_stay}

@@ -38,6 +38,8 @@ use Rattle.mark_laws.proofs.Sizes.{states_find_all}
 use Rattle.hint_laws.proofs.Followed.{registers, view_in, AreCopied, FilledUpTo}
 use Rattle.hint_laws.proofs.WordFacts.{WordLeaves, word-leaves, word-calls, hints_behind, PlanDoes, ReadDoes, OtherLeaves}
 use Rattle.hint_laws.proofs.FilledViews.{NextNumbers, next-numbers, numbers-alike, fills, SharedBehind, shared-behind}
+use Rattle.hint_laws.proofs.Transport.{no-reads}
+use Rattle.std.proofs.lemmas.Bool.{and_parts}
 
 -- ---- plans and actions
 
@@ -91,12 +93,7 @@ pub record SettledRead (plan : CallPlan) (filled : Bool) (x : ℕ) : Type 0 wher
 
 -- so it is by each plan
 settled-read : {plan : CallPlan} {act : Action} → CallIs plan act → (filled : Bool) (x : ℕ) → settles act filled x ≡ true → SettledRead plan filled x
-settled-read (a_read d spot a) filled x h = let both : (is_within a spot.count x ≡ true) × (filled ≡ true) = parts (is_within a spot.count x) filled h in record { d = d; spot = spot; a = a; is = refl; set = both.1; within = both.0 }
-  where
-    parts : (b c : Bool) → (b && c) ≡ true → (b ≡ true) × (c ≡ true)
-    parts true true h = (refl, refl)
-    parts true false h = false_true h
-    parts false c h = false_true h
+settled-read (a_read d spot a) filled x h = let both : (is_within a spot.count x ≡ true) × (filled ≡ true) = and_parts (is_within a spot.count x) filled h in record { d = d; spot = spot; a = a; is = refl; set = both.1; within = both.0 }
 settled-read (no_read e f g) filled x h = false_true (sym (g filled x) ∙ h)
 
 -- ---- at an HCALL
@@ -128,12 +125,6 @@ hints-plain w r next u plain does (no_read e f g) = let is : OtherLeaves r next 
 hints-again : {plan : CallPlan} {act : Action} (w : World) (r next : Run) (u : Bool) → u ≡ true → PlanDoes w u r next plan → CallIs plan act → next.since.hints ≡ r.since.hints
 hints-again w r next u again does (a_read d spot a) = let is : ReadDoes w u r next spot a = does.reads d spot a refl in is.hints ∙ ap (λ (b : Bool). hints_behind b spot r) again
 hints-again w r next u again does (no_read e f g) = let is : OtherLeaves r next = does.others e in is.hints
-
--- no reads are counted up to the first instruction
-no_reads : (w : World) (r y : Run) (s : ℕ) → s ≡ 0 → reads w r s ≡ reads w y (suc s)
-unfolding reads
-no_reads w r y zero e = refl
-no_reads w r y (suc s) e = absurd (omega (arith, e))
 
 -- the reads up to the next instruction, which isn't the first
 pub reads-next : (w : World) (r : Run) (s : ℕ) → 0 < s → reads w r (suc s) ≡ reads w r s ++ read_in (action w r (suc s))
@@ -309,7 +300,7 @@ module _ (w : World) (accepted : Accepted w) (x : Answer) (r : Run) (s : ℕ) (m
 
     -- HCALL 1 makes the call of the first instruction, whose read is none of them
     pub call-unhinted : u ≡ true → s ≡ 0 → r.since.hints ≡ reads w r s → next.since.hints ≡ reads w next (suc s)
-    call-unhinted again first hints = hints-again w r next u again does (call-is l q) ∙ (hints ∙ no_reads w r next s first)
+    call-unhinted again first hints = hints-again w r next u again does (call-is l q) ∙ (hints ∙ no-reads w r next s first)
 
   -- ---- where it is a use
 

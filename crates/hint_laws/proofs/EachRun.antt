@@ -1,12 +1,11 @@
 -- In every run the shadow follows the run from its restart until the first use: the laws of hints.
-use Rattle.std.proofs.Common.{◌≡◌, ℕ, suc, ◌+◌, ◌<◌, ◌≤◌, ◌⊎◌, inl, inr, Bool, true, false, List, [], ◌∷◌, ◌++◌, Option, Some, None, refl, ◌∙◌, ap, sym, subst, arith}
+use Rattle.std.proofs.Common.{◌≡◌, ℕ, suc, ◌<◌, ◌⊎◌, inl, inr, Bool, true, false, [], ◌∷◌, ◌++◌, Option, Some, None, refl, ◌∙◌, ap, sym, subst, arith}
 use Rattle.std.specs.Prelude.{◌≢◌, IsTrue}
 use Rattle.spec_base.specs.declared.layout.Layout.{Layout}
 use Rattle.spec_base.specs.declared.note.Move.{Move}
 use Rattle.spec_base.specs.declared.note.Move.TheVariants.{O, S, T, D}
 use Rattle.spec_base.specs.declared.note.ShadowState.{ShadowState}
 use Rattle.spec_base.specs.declared.note.ShadowState.TheVariants.{Never, Running, Stopped, Parked}
-use Rattle.spec_base.specs.declared.park.Park.{Park}
 use Rattle.program_model.specs.PlainRun.{State}
 use Rattle.run_model.specs.Run.{World, Run, RunEnd, Answer, opened_run}
 use Rattle.run_model.specs.ShadowMoves.{is_arrival, shadow_step}
@@ -14,7 +13,7 @@ use Rattle.run_model.specs.Moves.{Moves, begun, silent, step, step_unless, run, 
 use Rattle.run_model.specs.Restarts.{from_restart}
 use Rattle.run_model.specs.Marks.{before_use}
 use Rattle.run_model.specs.OwnLaws.{Accepted}
-use Rattle.run_model.specs.HintLaws.{IsFollowing, HintsAreReads, ShadowFollows, HintsUntilUse}
+use Rattle.run_model.specs.HintLaws.{HintsAreReads, ShadowFollows, HintsUntilUse}
 use Rattle.side_model.specs.Sees.{Shade}
 use Rattle.mark_laws.specs.Sizes.{TrueSizes}
 use Rattle.mark_laws.proofs.Horizons.{use_is_after_horizon}
@@ -22,8 +21,8 @@ use Rattle.mark_laws.proofs.Numbers.{before_use_with-down}
 use Rattle.mark_laws.proofs.Sizes.{sizes_are_true}
 use Rattle.shadow_laws.proofs.ShadowNumbers.{Sized, stock_of, run-sized}
 use Rattle.shadow_laws.proofs.ShadowRuns.{resting-stays, run-snoc}
-use Rattle.hint_laws.proofs.Followed.{Followed, rests}
-use Rattle.hint_laws.proofs.FilledNumbers.{Fills, stay, step-fills, fills-use}
+use Rattle.hint_laws.proofs.Followed.{rests}
+use Rattle.hint_laws.proofs.FilledNumbers.{stay, step-fills, fills-use}
 use Rattle.hint_laws.proofs.WordFacts.{WordLeaves, word-leaves}
 use Rattle.hint_laws.proofs.Transport.{SameRun, followed-same}
 use Rattle.hint_laws.proofs.Halts.{stopped}

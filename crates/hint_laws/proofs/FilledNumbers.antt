@@ -1,6 +1,5 @@
 -- What one word of the shadow does to the numbers of the reads that were filled: it leaves them, or adds the number of the instruction at hand. So marks and uses up to the arrivals so far stay.
-use Rattle.std.proofs.Common.{◌≡◌, ℕ, zero, suc, ◌+◌, ◌<◌, ◌≤◌, ◌⊎◌, inl, inr, Bool, true, false, ◌&&◌, List, [], ◌∷◌, ◌++◌, Option, Some, None, refl, ◌∙◌, ap, sym, subst, arith}
-use Rattle.std.specs.Prelude.{IsTrue}
+use Rattle.std.proofs.Common.{◌≡◌, ℕ, zero, suc, ◌+◌, ◌≤◌, Bool, true, false, ◌&&◌, List, [], ◌∷◌, ◌++◌, Option, Some, None, refl, ◌∙◌, ap, arith}
 use Rattle.spec_base.specs.declared.machine.View.TheVariants.{Shadow}
 use Rattle.spec_base.specs.declared.note.ShadowState.{ShadowState}
 use Rattle.spec_base.specs.declared.note.ShadowState.TheVariants.{Never, Running, Stopped, Parked}
@@ -14,8 +13,8 @@ use Rattle.program_model.specs.Calls.{CallPlan, Set, Look, Read, Write, Exit}
 use Rattle.run_model.specs.Run.{World, Run, Answer, Usual, Took, Failed, Lost, rewritten_words}
 use Rattle.run_model.specs.ShadowMoves.{fetch_shadow, is_running, is_arrival, arrived_if, word_counted, shadow_plan, assumed, look_assumed, hint_given, fill_if, is_filled, shadow_gate, shadow_stores, shadow_after, shadow_at_word, shadow_in, shadow_step}
 use Rattle.run_model.specs.Marks.{before_use}
-use Rattle.mark_laws.specs.Settled.{Alike, SameSets}
-use Rattle.mark_laws.proofs.Numbers.{alike-same, alike-filled, alike-down, sets_rest_on_numbers}
+use Rattle.mark_laws.specs.Settled.{Alike}
+use Rattle.mark_laws.proofs.Numbers.{alike-same, alike-filled, sets_rest_on_numbers}
 
 -- they stay, or have one more, and so does the restart
 pub data Fills (r y : Run) : Type 0 where

@@ -1,8 +1,8 @@
 -- A shadow that follows the program goes on following it where it arrives behind an instruction that is no use.
-use Rattle.std.proofs.Common.{◌≡◌, ℕ, zero, suc, ◌+◌, ◌-◌, ◌/◌, ◌%◌, ◌<◌, ◌≤◌, ◌⊎◌, inl, inr, Bool, true, false, ◌||◌, ◌==◌, ℤ, [], ◌++◌, append-nil, Option, Some, refl, ◌∙◌, ap, ap₂, sym, subst, arith}
-use Rattle.std.specs.Prelude.{⊤, IsTrue}
+use Rattle.std.proofs.Common.{◌≡◌, ℕ, zero, suc, ◌+◌, ◌-◌, ◌/◌, ◌%◌, ◌<◌, ◌≤◌, ◌⊎◌, inl, inr, Bool, true, false, ◌==◌, ℤ, [], ◌++◌, append-nil, Option, Some, refl, ◌∙◌, ap, ap₂, sym, subst, arith}
+use Rattle.std.specs.Prelude.{IsTrue}
 use Rattle.std.specs.Option.{option_and_then}
-use Rattle.std.proofs.lemmas.Bool.{and_parts}
+use Rattle.std.proofs.lemmas.Bool.{and_parts, or_cases}
 use Rattle.std.proofs.lemmas.Bool.Decides.{nat_tests}
 use Rattle.spec_base.specs.Listed.{is_listed}
 use Rattle.spec_base.specs.Word.{plus_int}
@@ -47,16 +47,12 @@ use Rattle.mark_laws.proofs.Changes.{from_restart-next}
 use Rattle.mark_laws.proofs.Horizons.{and_right, not_true}
 use Rattle.mark_laws.proofs.Numbers.{from_restart-origin, reads-origin, marks_with-alike, settled_with-alike}
 use Rattle.mark_laws.proofs.OneInstruction.{unmarked-register, flow_agrees, load_agrees, store_agrees}
-use Rattle.hint_laws.proofs.Within.{Doing, does, ends, restarts, goes_to, known_from, within-running}
+use Rattle.hint_laws.proofs.Within.{Doing, does, known_from, within-running}
 use Rattle.hint_laws.proofs.WithinSteps.{KeepsCopies, IsQuiet, Comes, flows, loads, stores, returns}
-use Rattle.hint_laws.proofs.Followed.{known, registers, program_in, view_in, AreCopied, DoesOf, instruction, text_end, restart, Works, Followed}
+use Rattle.hint_laws.proofs.Followed.{known, registers, program_in, view_in, AreCopied, Works, Followed}
 use Rattle.hint_laws.proofs.Views.{known-number, stored-seen, has-registers, agrees-as, no_rights, IsFlow, flow-is}
 use Rattle.hint_laws.proofs.Arriving.{Arrives, StandsAt, follows-there, leaves, stays, counted, alike, view-stays, filled-stays, used-stays, keeps-all}
-
--- one of two tests passes
-one_of : (b c : Bool) → (b || c) ≡ true → (b ≡ true) ⊎ (c ≡ true)
-one_of true c e = inl refl
-one_of false c e = inr e
+use Rattle.hint_laws.proofs.Spots.{InstructionOf, instruction-of}
 
 module _ (w : World) (a : Accepted w) (x : Answer) (r : Run) where
   abbrev l : Layout
@@ -66,18 +62,6 @@ module _ (w : World) (a : Accepted w) (x : Answer) (r : Run) where
   next = shadow_step w x r
 
   -- ---- the instruction at hand
-
-  -- what is so of the instruction that the shadow works on; behind a call it works on none
-  abbrev InstructionOf : State → Doing → Type 0
-  InstructionOf q (does p i g) = (p ≡ q.pc) × (instr_at w.image q ≡ Some i) × HasRegisters i
-  InstructionOf q (ends g) = ⊤
-  InstructionOf q (restarts site g) = ⊤
-  InstructionOf q (goes_to to g) = ⊥
-
-  instruction-of : {q : State} {d : Doing} → DoesOf w q d → InstructionOf q d
-  instruction-of (instruction i g word has) = (refl, word, has)
-  instruction-of (text_end g e) = tt
-  instruction-of (restart g e) = tt
 
   -- an instruction that is no read leaves the reads
   reads-stay : (s : ℕ) → read_in (action w r (suc s)) ≡ [] → reads w r (suc s) ≡ reads w r s
@@ -125,7 +109,7 @@ module _ (w : World) (a : Accepted w) (x : Answer) (r : Run) where
     copied-behind : KeepsCopies l r.shared next.shared → ((y : ℕ) → settles (instr_action l q (Some i)) filled y ≡ true → (y / 256 < all_regions l) × (0 < entry_of next.shared (y / 256))) → AreCopied w next (suc s)
     unfolding settled_with
     copied-behind keeps own y e =
-        by_case (one_of (settled_with r.since.filled w r s y) _ (sym (settled_with-alike w r next r.since.filled next.since.filled (suc s) (alike w a x r runs quiet (suc s)) y) ∙ e))
+        by_case (or_cases (settled_with r.since.filled w r s y) _ (sym (settled_with-alike w r next r.since.filled next.since.filled (suc s) (alike w a x r runs quiet (suc s)) y) ∙ e))
       where
         by_case : (settled_with r.since.filled w r s y ≡ true) ⊎ (settles (action w r (suc s)) filled y ≡ true) → (y / 256 < all_regions l) × (0 < entry_of next.shared (y / 256))
         by_case (inl h) = let was = v.copied y h in (was.0, subst (λ n. 0 < n) (sym (keeps (y / 256) was.0 was.1)) was.1)
@@ -270,7 +254,7 @@ module _ (w : World) (a : Accepted w) (x : Answer) (r : Run) where
       → Comes l (known l m q) (program_in w r) r.shared target pt.regs pt.tabs next.shared d → IsQuiet w r → IsTrue (before_use w next next.since.shadow) → Followed w next
   reached {s} {m} {q} {program} {d} {n} {target} {base} {pt} v at comes quiet before = by_coming v (instruction-of v.doing) comes
     where
-      by_coming : {d : Doing} → Works w r s m q program d n → InstructionOf q d → Comes l (known l m q) (program_in w r) r.shared target pt.regs pt.tabs next.shared d → Followed w next
+      by_coming : {d : Doing} → Works w r s m q program d n → InstructionOf w q d → Comes l (known l m q) (program_in w r) r.shared target pt.regs pt.tabs next.shared d → Followed w next
       by_coming v is (flows arrives same) = flowed v quiet is.0 is.1 is.2 arrives same at before
       by_coming v is (loads arrives same) = loaded_there v quiet is.0 is.1 is.2 arrives same at before
       by_coming v is (stores t0 arrives keeps) = stored_there v quiet is.0 is.1 is.2 arrives keeps at before

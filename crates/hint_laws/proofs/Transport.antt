@@ -1,5 +1,5 @@
 -- What is said of a run whose shadow follows rests on the restart, the filled reads, the counts and hints, the shadow, and what is shared: it is so of each run that has the same.
-use Rattle.std.proofs.Common.{◌≡◌, ℕ, suc, ◌+◌, ◌/◌, ◌<◌, ◌⊎◌, true, false, List, Option, refl, ◌∙◌, ap, ap₂, sym, subst}
+use Rattle.std.proofs.Common.{◌≡◌, ℕ, suc, ◌+◌, ◌/◌, ◌<◌, ◌⊎◌, true, false, List, Option, refl, ◌∙◌, ap, ap₂, sym, subst, zero, Bool, arith}
 use Rattle.std.specs.Prelude.{◌≢◌, if◌then◌else◌}
 use Rattle.spec_base.specs.Listed.{is_listed}
 use Rattle.spec_base.specs.declared.note.ShadowState.TheVariants.{Running}
@@ -91,6 +91,19 @@ filled-same r y e i f k above = ap (λ (numbers : List ℕ). is_listed numbers k
 -- up to where the hints reach
 pub hinted-by : (w : World) (r y : Run) → y.shadow.pc ≡ r.shadow.pc → y.since.shadow ≡ r.since.shadow → hinted_up_to w y ≡ hinted_up_to w r
 hinted-by w r y pc count = ap₂ (λ (pc n : ℕ). if is_behind_call w pc then n + 1 else n) pc count
+
+-- they reach to the shadow's arrivals, and behind a call one further
+pub hinted-off : (w : World) (r : Run) → is_behind_call w r.shadow.pc ≡ false → hinted_up_to w r ≡ r.since.shadow
+hinted-off w r h = ap (λ (b : Bool). if b then r.since.shadow + 1 else r.since.shadow) h
+
+pub hinted-on : (w : World) (r : Run) → is_behind_call w r.shadow.pc ≡ true → hinted_up_to w r ≡ suc r.since.shadow
+hinted-on w r h = ap (λ (b : Bool). if b then r.since.shadow + 1 else r.since.shadow) h ∙ omega arith
+
+-- the first instruction gives no hint
+pub no-reads : (w : World) (r y : Run) (i : ℕ) → i ≡ 0 → reads w r i ≡ reads w y (suc i)
+unfolding reads
+no-reads w r y zero e = refl
+no-reads w r y (suc i) e = absurd (omega (arith, e))
 
 -- ---- each way
 

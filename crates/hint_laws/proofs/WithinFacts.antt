@@ -1,10 +1,9 @@
 -- What a shadow's row says by itself: that the answer of a call stands in x10 behind it, and where RESTART's rows are.
-use Rattle.std.proofs.Common.{◌≡◌, ℕ, ◌+◌, ◌*◌, ◌<◌, ◌≤◌, ◌⊎◌, inl, inr, Bool, true, false, nat_lt, List, refl, ◌∙◌, ap, sym, subst, arith, Option}
+use Rattle.std.proofs.Common.{◌≡◌, ℕ, ◌+◌, ◌*◌, ◌<◌, ◌≤◌, ◌⊎◌, inl, inr, Bool, true, false, nat_lt, refl, ◌∙◌, ap, sym, subst, arith, Option}
 use Rattle.std.specs.Prelude.{⊤}
 use Rattle.std.proofs.lemmas.Bool.Decides.{nat_tests}
 use Rattle.spec_base.specs.Layout.{helpers_start}
 use Rattle.spec_base.specs.declared.layout.Layout.{Layout}
-use Rattle.rv_decode.specs.declared.instr.Instr.{Instr}
 use Rattle.rv_model.specs.Memory.{Memory}
 use Rattle.rv_model.specs.Registers.{reg}
 use Rattle.code_model.specs.Places.{RESTART, FAULT}
@@ -16,8 +15,7 @@ use Rattle.side_model.specs.Places.{Restarting, Place, InHelper, Faulting, addre
 use Rattle.side_model.specs.Sees.{Shade}
 use Rattle.side_model.specs.JumpRows.{JumpRow, faults}
 use Rattle.rows_log.specs.RestartRows.{RestartRow, r18-47, RestartedRow, UnboxedRow, r49, r50}
-use Rattle.shadow_laws.proofs.Sound.{At, Standing}
-use Rattle.hint_laws.proofs.Within.{Doing, does, ends, restarts, goes_to, BehindRow, behind, Within, computing, quartering, branching, linking, padding, going, jumping, parking, guarded, loading, storing, calling, answered, restarting, unboxing}
+use Rattle.hint_laws.proofs.Within.{Doing, does, ends, restarts, goes_to, BehindRow, behind, Within, answered, restarting, unboxing}
 
 -- ---- behind a call
 

@@ -3,7 +3,6 @@ use Rattle.std.proofs.Common.{◌≡◌, ℕ, ◌+◌, ◌/◌, ◌<◌, ◌≤�
 use Rattle.std.proofs.lemmas.Bool.Decides.{nat_tests}
 use Rattle.spec_base.specs.Layout.{range_start, range_end, link_start, table_start, list_start}
 use Rattle.spec_base.specs.declared.layout.Layout.{Layout}
-use Rattle.spec_base.specs.declared.note.ShadowState.TheVariants.{Running}
 use Rattle.rv_decode.specs.declared.instr.Instr.{Instr}
 use Rattle.rv_model.specs.Memory.{Memory, loaded}
 use Rattle.code_model.specs.Regions.{entry_address, entry_of, listed_address}
