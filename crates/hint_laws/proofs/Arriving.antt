@@ -1,8 +1,7 @@
 -- A shadow that follows the program goes on following it where it arrives behind a call, and doesn't arrive there before the first use where the call is one.
-use Rattle.std.proofs.Common.{◌≡◌, ℕ, suc, ◌+◌, ◌-◌, ◌/◌, ◌%◌, ◌<◌, ◌≤◌, Bool, true, false, ◌&&◌, ◌==◌, nat_le, eq-eqb, Option, Some, None, List, slice_get, refl, ◌∙◌, ap, ap₂, sym, subst, arith}
+use Rattle.std.proofs.Common.{◌≡◌, ℕ, suc, ◌+◌, ◌-◌, ◌/◌, ◌%◌, ◌<◌, Bool, true, false, ◌&&◌, ◌==◌, nat_le, eq-eqb, Option, Some, None, slice_get, refl, ◌∙◌, ap, ap₂, sym, subst, arith}
 use Rattle.std.specs.Prelude.{⊤, IsTrue}
 use Rattle.std.proofs.lemmas.Bool.Decides.{nat_tests}
-use Rattle.spec_base.specs.Listed.{is_listed}
 use Rattle.spec_base.specs.declared.layout.Layout.{Layout}
 use Rattle.spec_base.specs.declared.note.ShadowState.TheVariants.{Running}
 use Rattle.rv_decode.specs.declared.instr.Instr.{Instr}
@@ -24,13 +23,13 @@ use Rattle.own_laws.proofs.Reached.{false_true}
 use Rattle.shadow_laws.proofs.ShadowRuns.{block-arrives}
 use Rattle.shadow_laws.proofs.TextBlocks.{InText}
 use Rattle.mark_laws.specs.Agreement.{Agrees, SeesAlike}
-use Rattle.mark_laws.specs.Settled.{Alike}
-use Rattle.mark_laws.proofs.Numbers.{alike-same, from_restart-origin, reads-origin, marks_with-alike, settled_with-alike, before_use_with-alike}
+use Rattle.mark_laws.proofs.Numbers.{from_restart-origin, reads-origin}
 use Rattle.hint_laws.proofs.Within.{Doing, does, ends, goes_to, Within, Begun, begun, at_end, begins, within-running}
 use Rattle.hint_laws.proofs.WithinSteps.{KeepsCopies, IsQuiet, Comes, flows, loads, stores, returns}
 use Rattle.hint_laws.proofs.Followed.{known, registers, regs_of, program_in, view_in, AreCopied, FilledUpTo, DoesOf, instruction, text_end, is_restart, first, Behind, Strays, Followed, works}
 use Rattle.hint_laws.proofs.WordFacts.{WordLeaves, HintsStay, word-leaves, word-hints_stay}
 use Rattle.hint_laws.proofs.Views.{are-seen}
+use Rattle.hint_laws.proofs.Transport.{copied-kept, same-marks, filled-same, same-use}
 
 -- ---- the instruction there
 
@@ -124,10 +123,6 @@ module _ (w : World) (a : Accepted w) (x : Answer) (r : Run) where
     pub stays : HintsStay r next
     stays = word-hints_stay w x r runs quiet
 
-    -- the runs are alike from the restart
-    pub alike : (c : ℕ) → Alike c r next r.since.filled next.since.filled
-    alike c = alike-same c r next leaves.origin stays.filled
-
     -- an arrival is counted
     pub counted : {p base : ℕ} {pt : Point} → Arrives p base pt → next.since.shadow ≡ suc r.since.shadow
     counted {p} at = leaves.arrives at.shown.running (ap (is_arrival l) (at.shown.pc ∙ at.place) ∙ block-arrives w a p at.block) ∙ omega arith
@@ -138,17 +133,7 @@ module _ (w : World) (a : Accepted w) (x : Answer) (r : Run) where
 
     -- settled bytes still have copies
     pub copied-stays : (c : ℕ) → KeepsCopies l r.shared next.shared → AreCopied w r c → AreCopied w next c
-    copied-stays c keeps copied y e =
-        let was = copied y (sym (settled_with-alike w r next r.since.filled next.since.filled c (alike c) y) ∙ e) in
-        (was.0, subst (λ n. 0 < n) (sym (keeps (y / 256) was.0 was.1)) was.1)
-
-    -- no later read is filled
-    pub filled-stays : (c e : ℕ) → c ≤ e → FilledUpTo r c → FilledUpTo next e
-    filled-stays c e most filled k less = ap (λ (numbers : List ℕ). is_listed numbers k) stays.filled ∙ filled k (omega (arith, most, less))
-
-    -- whether there has been a use, too
-    pub used-stays : (c : ℕ) → before_use w next (suc c) ≡ before_use w r (suc c)
-    used-stays c = before_use_with-alike w r next r.since.filled next.since.filled c (alike c)
+    copied-stays c keeps = copied-kept w r next leaves.origin stays.filled c (λ region few some. subst (λ n. 0 < n) (sym (keeps region few some)) some)
 
   -- each copy is kept where nothing that is shared has changed
   pub keeps-all : next.shared ≡ r.shared → KeepsCopies l r.shared next.shared
@@ -183,14 +168,14 @@ module _ (w : World) (a : Accepted w) (x : Answer) (r : Run) where
           record {
             some = omega arith;
             count = counted runs quiet at ∙ ap suc v.count;
-            marked = marks_with-alike w r next r.since.filled next.since.filled (suc s) (alike runs quiet (suc s)) ∙ v.marked;
+            marked = same-marks w r next (leaves runs quiet).origin (stays runs quiet).filled (suc s) ∙ v.marked;
             state = from_restart-origin w r next (leaves runs quiet).origin (suc s) ∙ v.state;
             goes_on = v.goes_on;
             agrees = subst (λ (y : Regs). Agrees m (registers y) q) (sym came.1) v.agrees;
             files = (stays runs quiet).files ∙ v.files;
             sees = subst (λ (y : Memory). SeesAlike l m y q) (sym (view-stays runs quiet came.2)) v.sees;
             copied = copied-stays runs quiet (suc s) (keeps-all came.2) v.copied;
-            filled = filled-stays runs quiet (suc s) (suc s) (omega arith) v.filled;
+            filled = filled-same r next (stays runs quiet).filled (suc s) v.filled;
             hints = (stays runs quiet).hints ∙ v.hints ∙ sym (reads-origin w r next (leaves runs quiet).origin (suc s));
           }
 
@@ -202,4 +187,4 @@ module _ (w : World) (a : Accepted w) (x : Answer) (r : Run) where
   strayed {s} v at quiet before =
       let runs : r.shadow.state ≡ Running = within-running v.within in
       let count : next.since.shadow ≡ suc s = counted runs quiet at ∙ ap suc v.count in
-      false_true (sym v.used ∙ sym (used-stays runs quiet s) ∙ sym (ap (before_use w next) count) ∙ before)
+      false_true (sym v.used ∙ sym (same-use w r next (leaves runs quiet).origin (stays runs quiet).filled (suc s)) ∙ sym (ap (before_use w next) count) ∙ before)

@@ -14,19 +14,15 @@ use Rattle.run_model.specs.Restarts.{from_restart}
 use Rattle.run_model.specs.Marks.{before_use}
 use Rattle.run_model.specs.OwnLaws.{Accepted}
 use Rattle.run_model.specs.HintLaws.{HintsAreReads, ShadowFollows, HintsUntilUse}
-use Rattle.side_model.specs.Sees.{Shade}
 use Rattle.mark_laws.specs.Sizes.{TrueSizes}
 use Rattle.mark_laws.proofs.Horizons.{use_is_after_horizon}
 use Rattle.mark_laws.proofs.Numbers.{before_use_with-down}
 use Rattle.mark_laws.proofs.Sizes.{sizes_are_true}
 use Rattle.shadow_laws.proofs.ShadowNumbers.{Sized, stock_of, run-sized}
 use Rattle.shadow_laws.proofs.ShadowRuns.{resting-stays, run-snoc}
-use Rattle.hint_laws.proofs.Followed.{rests}
-use Rattle.hint_laws.proofs.FilledNumbers.{stay, step-fills, fills-use}
+use Rattle.hint_laws.proofs.FilledNumbers.{step-fills, fills-use}
 use Rattle.hint_laws.proofs.WordFacts.{WordLeaves, word-leaves}
-use Rattle.hint_laws.proofs.Transport.{SameRun, followed-same}
-use Rattle.hint_laws.proofs.Halts.{stopped}
-use Rattle.hint_laws.proofs.OwnMoves.{IsFollowed, StoppingFollows, own-followed, fetch-followed}
+use Rattle.hint_laws.proofs.OwnMoves.{IsFollowed, own-followed, fetch-followed, counted-followed}
 use Rattle.hint_laws.proofs.EachWord.{word-followed}
 use Rattle.hint_laws.proofs.Promises.{before-horizon, follows, follows_until_use}
 use Rattle.shadow_laws.proofs.Sound.{never_running, stopped_running, parked_running}
@@ -34,37 +30,6 @@ use Rattle.shadow_laws.proofs.Sound.{never_running, stopped_running, parked_runn
 module _ (w : World) (a : Accepted w) where
   abbrev l : Layout
   l = w.image.layout
-
-  -- ---- runs that are the same in all that is spoken of
-
-  same-followed : (r y : Run) → SameRun r y → y.restarts ≡ r.restarts → y.since.ahead ≡ r.since.ahead → y.since.whole ≡ r.since.whole → IsFollowed w r → IsFollowed w y
-  same-followed r y e n ahead whole k is unused =
-      followed-same w r y e
-      (k (record { restarted = subst (λ (n : ℕ). 0 < n) n is.restarted; ahead = subst IsTrue ahead is.ahead; whole = subst IsTrue whole is.whole })
-      (subst IsTrue (fills-use w r y r.since.shadow (omega arith) (stay e.origin e.filled)) (subst (λ (i : ℕ). IsTrue (before_use w y i)) e.count unused)))
-
-  -- nothing is told yet
-  begun-followed : (r : Run) → IsFollowed w r → IsFollowed w (begun r)
-  begun-followed r = same-followed r (begun r) (record { origin = refl; filled = refl; count = refl; hints = refl; shade = refl; memory = refl }) refl refl refl
-
-  silent-followed : (r : Run) → IsFollowed w r → IsFollowed w (silent r)
-  silent-followed r = same-followed r (silent r) (record { origin = refl; filled = refl; count = refl; hints = refl; shade = refl; memory = refl }) refl refl refl
-
-  -- a shadow that is stopped rests
-  stopping : StoppingFollows w
-  stopping r y origin filled count hints shade memory f =
-      rests
-      (stopped w a r y
-      (record {
-        origin = origin;
-        filled = filled;
-        count = count;
-        hints = hints;
-        registers = ap (λ (h : Shade). h.hart.registers) shade;
-        files = ap (λ (h : Shade). h.hart.files) shade;
-        shared = ap (λ (h : Shade). h.shared) shade;
-        memory = memory;
-      }) (ap (λ (h : Shade). h.hart.pc) shade) (λ e. stopped_running (sym (ap (λ (h : Shade). h.hart.state) shade) ∙ e)) f)
 
   -- ---- a word of the shadow
 
@@ -131,13 +96,16 @@ module _ (w : World) (a : Accepted w) where
       x : Answer
       x = m.1
 
+      begun-followed : IsFollowed w (begun r)
+      begun-followed = counted-followed w r (begun r) refl refl k
+
       sizes : (q : State) → from_restart w (begun r) (begun r).since.shadow ≡ Some q → TrueSizes w.files q.files
       sizes q e = (sizes_are_true w a before).restarted r.since.shadow q e
 
       by_end : (e : Option RunEnd) → (n : Move) → (n ≡ S) ⊎ (n ≡ T) → IsFollowed w (step_unless e w r (n, x))
-      by_end (Some e) n is = silent-followed r k
-      by_end None S is = shadow-followed x (begun r) (run-sized w a before) sizes (begun-followed r k)
-      by_end None T is = while-followed r.stalled x (begun r) (run-sized w a before) sizes (begun-followed r k)
+      by_end (Some e) n is = counted-followed w r (silent r) refl refl k
+      by_end None S is = shadow-followed x (begun r) (run-sized w a before) sizes begun-followed
+      by_end None T is = while-followed r.stalled x (begun r) (run-sized w a before) sizes begun-followed
       by_end None O is = absurd (no is)
         where
           no : (O ≡ S) ⊎ (O ≡ T) → ⊥
@@ -150,7 +118,7 @@ module _ (w : World) (a : Accepted w) where
           no (inr e) = cc
 
       by_move : (n : Move) → m.0 ≡ n → IsFollowed w (step w r (n, x))
-      by_move O e = own-followed w a before x stopping k
+      by_move O e = own-followed w a before x k
       by_move D e = fetch-followed w r x k
       by_move S e = by_end r.end S (inl refl)
       by_move T e = by_end r.end T (inr refl)

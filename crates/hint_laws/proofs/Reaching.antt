@@ -45,14 +45,16 @@ use Rattle.mark_laws.specs.Agreement.{IsAt, SeesAlike, may_access, Leads, FlowLe
 use Rattle.mark_laws.specs.Settled.{settles, settled_with}
 use Rattle.mark_laws.proofs.Changes.{from_restart-next}
 use Rattle.mark_laws.proofs.Horizons.{and_right, not_true}
-use Rattle.mark_laws.proofs.Numbers.{from_restart-origin, reads-origin, marks_with-alike, settled_with-alike}
+use Rattle.mark_laws.proofs.Numbers.{from_restart-origin, reads-origin}
 use Rattle.mark_laws.proofs.OneInstruction.{unmarked-register, flow_agrees, load_agrees, store_agrees}
 use Rattle.hint_laws.proofs.Within.{Doing, does, known_from, within-running}
 use Rattle.hint_laws.proofs.WithinSteps.{KeepsCopies, IsQuiet, Comes, flows, loads, stores, returns}
 use Rattle.hint_laws.proofs.Followed.{known, registers, program_in, view_in, AreCopied, Works, Followed}
 use Rattle.hint_laws.proofs.Views.{known-number, stored-seen, has-registers, agrees-as, no_rights, IsFlow, flow-is}
-use Rattle.hint_laws.proofs.Arriving.{Arrives, StandsAt, follows-there, leaves, stays, counted, alike, view-stays, filled-stays, used-stays, keeps-all}
+use Rattle.hint_laws.proofs.Arriving.{Arrives, StandsAt, follows-there, leaves, stays, counted, view-stays, keeps-all}
 use Rattle.hint_laws.proofs.Spots.{InstructionOf, instruction-of}
+use Rattle.hint_laws.proofs.Transport.{same-marks, same-use, same-settled, filled-same}
+use Rattle.hint_laws.proofs.WordFacts.{WordLeaves, HintsStay}
 
 module _ (w : World) (a : Accepted w) (x : Answer) (r : Run) where
   abbrev l : Layout
@@ -72,6 +74,13 @@ module _ (w : World) (a : Accepted w) (x : Answer) (r : Run) where
   module _ {s : ℕ} {m : Marks} {q : State} {program : Memory} {d : Doing} {n : ℕ} (v : Works w r s m q program d n) (quiet : IsQuiet w r) (i : Instr) (word : instr_at w.image q ≡ Some i) where
     runs : r.shadow.state ≡ Running
     runs = within-running v.within
+
+    -- what the word leaves
+    left : WordLeaves w r next
+    left = leaves w a x r runs quiet
+
+    same : HintsStay r next
+    same = stays w a x r runs quiet
 
     -- whether its read is filled, if it is one
     abbrev filled : Bool
@@ -94,7 +103,7 @@ module _ (w : World) (a : Accepted w) (x : Answer) (r : Run) where
     unfolding before_use_with
     no-use at before =
         let count : next.since.shadow ≡ suc s = counted w a x r runs quiet at ∙ ap suc v.count in
-        let unused : IsTrue (before_use w r (suc s)) = sym (used-stays w a x r runs quiet s) ∙ sym (ap (before_use w next) count) ∙ before in
+        let unused : IsTrue (before_use w r (suc s)) = sym (same-use w r next left.origin same.filled (suc s)) ∙ sym (ap (before_use w next) count) ∙ before in
         sym (ap₂ (λ (o : Option State) (marks : Marks). some_use w.image o marks) v.state v.marked ∙ ap (λ (o : Option Instr). is_use l q o m) word)
         ∙ not_true (some_use w.image (from_restart w r s) (marks w r s)) (and_right (before_use w r s) _ unused)
 
@@ -102,14 +111,14 @@ module _ (w : World) (a : Accepted w) (x : Answer) (r : Run) where
     marked-behind : marks w next (suc s) ≡ behind_marks
     unfolding marks_with
     marked-behind =
-        marks_with-alike w r next r.since.filled next.since.filled (suc s) (alike w a x r runs quiet (suc s))
+        same-marks w r next left.origin same.filled (suc s)
         ∙ ap₂ (λ (o : Option State) (marks : Marks). marks_after_some w.image filled o marks) v.state v.marked ∙ ap (λ (o : Option Instr). marks_after l filled q o m) word
 
     -- settled bytes have copies, where those have that it settles
     copied-behind : KeepsCopies l r.shared next.shared → ((y : ℕ) → settles (instr_action l q (Some i)) filled y ≡ true → (y / 256 < all_regions l) × (0 < entry_of next.shared (y / 256))) → AreCopied w next (suc s)
     unfolding settled_with
     copied-behind keeps own y e =
-        by_case (or_cases (settled_with r.since.filled w r s y) _ (sym (settled_with-alike w r next r.since.filled next.since.filled (suc s) (alike w a x r runs quiet (suc s)) y) ∙ e))
+        by_case (or_cases (settled_with r.since.filled w r s y) _ (sym (same-settled w r next left.origin same.filled (suc s) y) ∙ e))
       where
         by_case : (settled_with r.since.filled w r s y ≡ true) ⊎ (settles (action w r (suc s)) filled y ≡ true) → (y / 256 < all_regions l) × (0 < entry_of next.shared (y / 256))
         by_case (inl h) = let was = v.copied y h in (was.0, subst (λ n. 0 < n) (sym (keeps (y / 256) was.0 was.1)) was.1)
@@ -123,14 +132,14 @@ module _ (w : World) (a : Accepted w) (x : Answer) (r : Run) where
           some = omega arith;
           count = counted w a x r runs quiet at ∙ ap suc v.count;
           marked = marked-behind;
-          state = from_restart-origin w r next (leaves w a x r runs quiet).origin (suc s) ∙ from_restart-next w r s ∙ ap (option_and_then (next_state w.image w.files all_taken)) v.state ∙ y.completes;
+          state = from_restart-origin w r next left.origin (suc s) ∙ from_restart-next w r s ∙ ap (option_and_then (next_state w.image w.files all_taken)) v.state ∙ y.completes;
           goes_on = y.goes_on;
           agrees = agrees-as behind_marks new pt.regs y.state has y.agrees;
-          files = (stays w a x r runs quiet).files ∙ v.files ∙ sym y.descriptors;
+          files = same.files ∙ v.files ∙ sym y.descriptors;
           sees = sees;
           copied = copied;
-          filled = filled-stays w a x r runs quiet s (suc s) (omega arith) v.filled;
-          hints = (stays w a x r runs quiet).hints ∙ v.hints ∙ sym (reads-stay s (ap read_in acts ∙ none)) ∙ sym (reads-origin w r next (leaves w a x r runs quiet).origin (suc s));
+          filled = λ k less. filled-same r next same.filled s v.filled k (omega (arith, less));
+          hints = same.hints ∙ v.hints ∙ sym (reads-stay s (ap read_in acts ∙ none)) ∙ sym (reads-origin w r next left.origin (suc s));
         }
 
   -- ---- behind each kind of instruction
