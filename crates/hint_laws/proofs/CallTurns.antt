@@ -37,9 +37,10 @@ use Rattle.mark_laws.proofs.Horizons.{and_right, not_true, no_register-marked, b
 use Rattle.mark_laws.proofs.Sizes.{states_find_all}
 use Rattle.hint_laws.proofs.Followed.{registers, view_in, AreCopied, FilledUpTo}
 use Rattle.hint_laws.proofs.WordFacts.{WordLeaves, word-leaves, word-calls, hints_behind, PlanDoes, ReadDoes, OtherLeaves}
-use Rattle.hint_laws.proofs.FilledViews.{NextNumbers, next-numbers, numbers-alike, fills, SharedBehind, shared-behind}
+use Rattle.hint_laws.proofs.FilledViews.{NextNumbers, next-numbers, fills, SharedBehind, shared-behind}
 use Rattle.hint_laws.proofs.Transport.{no-reads}
 use Rattle.std.proofs.lemmas.Bool.{and_parts}
+use Rattle.hint_laws.proofs.FilledNumbers.{fills-alike}
 
 -- ---- plans and actions
 
@@ -162,12 +163,12 @@ module _ (w : World) (accepted : Accepted w) (x : Answer) (r : Run) (s : ℕ) (m
     call-shared = shared-behind w accepted u r next c.stands.tables c.stands.has c.stands.ok call-leaves.own plan e call-does
 
     -- the numbers of the filled reads
-    pub call-numbers : NextNumbers r next s (fills w u r plan)
+    pub call-numbers : NextNumbers next s (fills w u r plan)
     call-numbers = next-numbers r next s (fills w u r plan) c.count c.filled call-shared.numbers
 
     -- those up to s are as before
     pub call-alike : Alike s r next r.since.filled next.since.filled
-    call-alike = numbers-alike r next s (fills w u r plan) call-leaves.origin call-numbers
+    call-alike = fills-alike (fills w u r plan) r next s (omega (arith, c.count)) call-leaves.origin call-shared.numbers
 
     -- whether it is a use
     pub call-use : before_use w next (suc s) ≡ before_use w r (suc s)
@@ -217,7 +218,7 @@ module _ (w : World) (accepted : Accepted w) (x : Answer) (r : Run) (s : ℕ) (m
     shared = call-shared (plan_of l q) call-planned
 
     -- the numbers of the filled reads behind it
-    numbers : NextNumbers r next s filled
+    numbers : NextNumbers next s filled
     numbers = call-numbers (plan_of l q) call-planned
 
     -- those up to s are as before

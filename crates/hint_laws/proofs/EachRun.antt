@@ -1,5 +1,5 @@
 -- In every run the shadow follows the run from its restart until the first use: the laws of hints.
-use Rattle.std.proofs.Common.{◌≡◌, ℕ, suc, ◌<◌, ◌⊎◌, inl, inr, Bool, true, false, [], ◌∷◌, ◌++◌, Option, Some, None, refl, ◌∙◌, ap, sym, subst, arith}
+use Rattle.std.proofs.Common.{◌≡◌, ℕ, suc, ◌<◌, ◌⊎◌, inl, inr, Bool, true, false, [], ◌∷◌, ◌++◌, Option, Some, None, refl, ◌∙◌, ap, sym, subst, arith, ◌≤◌}
 use Rattle.std.specs.Prelude.{◌≢◌, IsTrue}
 use Rattle.spec_base.specs.declared.layout.Layout.{Layout}
 use Rattle.spec_base.specs.declared.note.Move.{Move}
@@ -20,8 +20,8 @@ use Rattle.mark_laws.proofs.Numbers.{before_use_with-down}
 use Rattle.mark_laws.proofs.Sizes.{sizes_are_true}
 use Rattle.shadow_laws.proofs.ShadowNumbers.{Sized, stock_of, run-sized}
 use Rattle.shadow_laws.proofs.ShadowRuns.{resting-stays, run-snoc}
-use Rattle.hint_laws.proofs.FilledNumbers.{step-fills, fills-use}
-use Rattle.hint_laws.proofs.WordFacts.{WordLeaves, word-leaves}
+use Rattle.hint_laws.proofs.FilledNumbers.{fills-use}
+use Rattle.hint_laws.proofs.WordFacts.{WordLeaves, word-leaves, word-fills, filled_behind}
 use Rattle.hint_laws.proofs.OwnMoves.{IsFollowed, own-followed, fetch-followed, counted-followed}
 use Rattle.hint_laws.proofs.EachWord.{word-followed}
 use Rattle.hint_laws.proofs.Promises.{before-horizon, follows, follows_until_use}
@@ -52,20 +52,24 @@ module _ (w : World) (a : Accepted w) where
         by_state (Parked cause) e = inl (f.halts (λ g. parked_running (sym e ∙ g)))
 
     -- where no use has come by then, none had come before
-    unused-before : WordLeaves w r next → IsTrue (before_use w next next.since.shadow) → IsTrue (before_use w r r.since.shadow)
-    unused-before f unused = by_count (counts f)
+    unused-before : r.shadow.state ≡ Running → WordLeaves w r next → IsTrue (before_use w next next.since.shadow) → IsTrue (before_use w r r.since.shadow)
+    unused-before running f unused = by_count (counts f)
       where
+        fills : (b : Bool) × (next.since.filled ≡ filled_behind b r)
+        fills = word-fills w x r running
+
+        same : (i : ℕ) → i ≤ suc r.since.shadow → next.since.shadow ≡ i → IsTrue (before_use w r i)
+        same i few e = sym (fills-use w fills.0 r next i few f.origin fills.1) ∙ (ap (before_use w next) (sym e) ∙ unused)
+
         by_count : (next.since.shadow ≡ r.since.shadow) ⊎ (next.since.shadow ≡ suc r.since.shadow) → IsTrue (before_use w r r.since.shadow)
-        by_count (inl e) = subst IsTrue (fills-use w r next r.since.shadow (omega arith) (step-fills w x r)) (subst (λ (i : ℕ). IsTrue (before_use w next i)) e unused)
-        by_count (inr e) =
-            before_use_with-down w r r.since.filled r.since.shadow
-            (subst IsTrue (fills-use w r next (suc r.since.shadow) (omega arith) (step-fills w x r)) (subst (λ (i : ℕ). IsTrue (before_use w next i)) e unused))
+        by_count (inl e) = same r.since.shadow (omega arith) e
+        by_count (inr e) = before_use_with-down w r r.since.filled r.since.shadow (same (suc r.since.shadow) (omega arith) e)
 
     running-followed : r.shadow.state ≡ Running → IsFollowed w next
     running-followed e is unused =
         let f : WordLeaves w r next = word-leaves w x r e in
         word-followed w a x r z sizes
-        (k (record { restarted = subst (λ (n : ℕ). 0 < n) f.restarts is.restarted; ahead = subst IsTrue f.ahead is.ahead; whole = subst IsTrue f.whole is.whole }) (unused-before f unused)) unused
+        (k (record { restarted = subst (λ (n : ℕ). 0 < n) f.restarts is.restarted; ahead = subst IsTrue f.ahead is.ahead; whole = subst IsTrue f.whole is.whole }) (unused-before e f unused)) unused
 
     -- whether it runs or not
     shadow-followed : IsFollowed w next

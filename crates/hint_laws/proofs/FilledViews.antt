@@ -1,8 +1,7 @@
 -- What an assumed call of the shadow leaves: the numbers of the filled reads, what the shadow sees, and which regions have copies.
-use Rattle.std.proofs.Common.{◌≡◌, ℕ, zero, suc, ◌+◌, ◌/◌, ◌<◌, ◌≤◌, Bool, true, false, ◌||◌, ◌==◌, List, [], ◌∷◌, ◌++◌, length, refl, ◌∙◌, ap, sym, subst, arith}
+use Rattle.std.proofs.Common.{◌≡◌, ℕ, zero, suc, ◌+◌, ◌/◌, ◌<◌, ◌≤◌, Bool, true, false, ◌||◌, ◌==◌, List, length, refl, ◌∙◌, ap, sym, subst, arith}
 use Rattle.std.specs.Prelude.{IsTrue}
 use Rattle.std.proofs.lemmas.Bool.Decides.{nat_tests}
-use Rattle.std.proofs.lemmas.List.Folds.{list_any-append}
 use Rattle.spec_base.specs.Listed.{is_listed}
 use Rattle.spec_base.specs.declared.layout.Layout.{Layout}
 use Rattle.spec_base.specs.declared.spot.ReadSpot.{ReadSpot}
@@ -22,57 +21,34 @@ use Rattle.rows_log.proofs.FillViews.{written-none, written-alike}
 use Rattle.rows_log.proofs.PlannedReads.{read-planned, all_from-last, data-region}
 use Rattle.own_laws.proofs.Reached.{false_true}
 use Rattle.mark_laws.specs.Agreement.{is_read, assumed_memory, HasAll}
-use Rattle.mark_laws.specs.Settled.{Alike}
 use Rattle.hint_laws.proofs.Followed.{view_in, program_in, FilledUpTo}
 use Rattle.hint_laws.proofs.WordFacts.{filled_behind, ReadDoes, OtherLeaves, PlanDoes}
 use Rattle.hint_laws.proofs.Views.{data-seen}
+use Rattle.std.proofs.lemmas.Bool.{or_right, or_from}
+use Rattle.mark_laws.proofs.Numbers.{is_listed-append}
 
 -- ---- the numbers of the filled reads
 
--- a number behind others
-is_listed-append : (numbers : List ℕ) (k n : ℕ) → is_listed (numbers ++ k ∷ []) n ≡ (is_listed numbers n || (k == n))
-is_listed-append numbers k n = list_any-append (λ (m : ℕ). m == n) numbers (k ∷ []) ∙ last (is_listed numbers n) (k == n)
-  where
-    last : (b c : Bool) → (b || (c || false)) ≡ (b || c)
-    last true c = refl
-    last false true = refl
-    last false false = refl
-
--- the next number is listed where its read was filled; those up to s are listed as before, and none above it
-pub record NextNumbers (r next : Run) (s : ℕ) (filled : Bool) : Type 0 where
-  pub before : (n : ℕ) → n ≤ s → is_listed next.since.filled n ≡ is_listed r.since.filled n
+-- the next number is listed where its read was filled, and none above it
+pub record NextNumbers (next : Run) (s : ℕ) (filled : Bool) : Type 0 where
   pub at : is_listed next.since.filled (suc s) ≡ filled
   pub above : FilledUpTo next (suc s)
 
 -- so it is behind each assumed call
-pub next-numbers : (r next : Run) (s : ℕ) (filled : Bool) → r.since.shadow ≡ s → FilledUpTo r s → next.since.filled ≡ filled_behind filled r → NextNumbers r next s filled
+pub next-numbers : (r next : Run) (s : ℕ) (filled : Bool) → r.since.shadow ≡ s → FilledUpTo r s → next.since.filled ≡ filled_behind filled r → NextNumbers next s filled
 next-numbers r next s false count up e =
     record {
-      before = λ n h. ap (λ (numbers : List ℕ). is_listed numbers n) e;
       at = ap (λ (numbers : List ℕ). is_listed numbers (suc s)) e ∙ up (suc s) (omega arith);
       above = λ k h. ap (λ (numbers : List ℕ). is_listed numbers k) e ∙ up k (omega arith);
     }
 next-numbers r next s true count up e =
     record {
-      before = λ n h. listed n ∙ neither (is_listed r.since.filled n) (r.since.shadow + 1 == n) (grind (arith, nat_tests, count));
-      at = listed (suc s) ∙ one (is_listed r.since.filled (suc s)) (r.since.shadow + 1 == suc s) (grind (arith, nat_tests, count));
-      above = λ k h. listed k ∙ (neither (is_listed r.since.filled k) (r.since.shadow + 1 == k) (grind (arith, nat_tests, count)) ∙ up k (omega arith));
+      at = listed (suc s) ∙ or_right (is_listed r.since.filled (suc s)) (r.since.shadow + 1 == suc s) (grind (arith, nat_tests, count));
+      above = λ k h. listed k ∙ or_from (is_listed r.since.filled k) (r.since.shadow + 1 == k) (up k (omega arith)) (grind (arith, nat_tests, count));
     }
   where
     listed : (n : ℕ) → is_listed next.since.filled n ≡ (is_listed r.since.filled n || (r.since.shadow + 1 == n))
     listed n = ap (λ (numbers : List ℕ). is_listed numbers n) e ∙ is_listed-append r.since.filled (r.since.shadow + 1) n
-
-    neither : (b c : Bool) → c ≡ false → (b || c) ≡ b
-    neither true c h = refl
-    neither false c h = h
-
-    one : (b c : Bool) → c ≡ true → (b || c) ≡ true
-    one true c h = refl
-    one false c h = h
-
--- the sets up to s rest on numbers that are alike
-pub numbers-alike : (r next : Run) (s : ℕ) (filled : Bool) → next.since.origin ≡ r.since.origin → NextNumbers r next s filled → Alike s r next r.since.filled next.since.filled
-numbers-alike r next s filled e n = record { origin = e; listed = n.before }
 
 -- ---- what the shadow sees
 

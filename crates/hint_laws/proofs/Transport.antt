@@ -6,12 +6,11 @@ use Rattle.spec_base.specs.declared.note.ShadowState.TheVariants.{Running}
 use Rattle.rv_model.specs.Memory.{Memory}
 use Rattle.program_model.specs.PlainRun.{State}
 use Rattle.code_model.specs.Regions.{entry_of, shadowed}
-use Rattle.run_model.specs.Run.{World, Run, rewritten_words}
+use Rattle.run_model.specs.Run.{World, Run}
 use Rattle.run_model.specs.ShadowMoves.{is_arrival}
 use Rattle.run_model.specs.Restarts.{from_restart, reads, before_horizon}
 use Rattle.run_model.specs.Marks.{Marks, marks, before_use}
 use Rattle.run_model.specs.HintLaws.{is_behind_call, hinted_up_to}
-use Rattle.rv_model.specs.Space.{program_byte}
 use Rattle.side_model.specs.Tables.{all_regions}
 use Rattle.side_model.specs.Sees.{HasRegs}
 use Rattle.mark_laws.specs.Agreement.{Agrees, SeesAlike}
@@ -19,7 +18,7 @@ use Rattle.mark_laws.specs.Settled.{settled_with}
 use Rattle.mark_laws.proofs.Numbers.{alike-same, from_restart-origin, reads-origin, marks_with-alike, settled_with-alike, before_use_with-so_far, before_horizon-so_far}
 use Rattle.hint_laws.proofs.Within.{Doing}
 use Rattle.hint_laws.proofs.WithinSteps.{Inner}
-use Rattle.hint_laws.proofs.Followed.{regs_of, program_in, view_in, AreCopied, FilledUpTo, Spot, first, inner, Stands, Rests}
+use Rattle.hint_laws.proofs.Followed.{regs_of, view_in, AreCopied, FilledUpTo, Spot, first, inner, Stands, Rests}
 
 -- ---- runs of which the same is said
 
@@ -89,10 +88,6 @@ no-reads w r y (suc i) e = absurd (omega (arith, e))
 -- ---- each way
 
 module _ (w : World) (r y : Run) (e : SameBut r y) where
-  -- what the program range has
-  pub same-program : program_in w y ≡ program_in w r
-  same-program = ap (λ (m : Memory). program_byte w.image.layout (rewritten_words w) m) e.memory
-
   -- what the shadow has in place of the program's memory
   pub same-view : view_in y ≡ view_in r
   same-view = ap₂ shadowed e.shared e.memory
