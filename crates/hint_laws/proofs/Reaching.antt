@@ -79,8 +79,8 @@ module _ (w : World) (a : Accepted w) (x : Answer) (r : Run) where
     left : WordLeaves w r next
     left = leaves w a x r runs quiet
 
-    same : HintsStay r next
-    same = stays w a x r runs quiet
+    stayed : HintsStay r next
+    stayed = stays w a x r runs quiet
 
     -- whether its read is filled, if it is one
     abbrev filled : Bool
@@ -103,7 +103,7 @@ module _ (w : World) (a : Accepted w) (x : Answer) (r : Run) where
     unfolding before_use_with
     no-use at before =
         let count : next.since.shadow ≡ suc s = counted w a x r runs quiet at ∙ ap suc v.count in
-        let unused : IsTrue (before_use w r (suc s)) = sym (same-use w r next left.origin same.filled (suc s)) ∙ sym (ap (before_use w next) count) ∙ before in
+        let unused : IsTrue (before_use w r (suc s)) = sym (same-use w r next left.origin stayed.filled (suc s)) ∙ sym (ap (before_use w next) count) ∙ before in
         sym (ap₂ (λ (o : Option State) (marks : Marks). some_use w.image o marks) v.state v.marked ∙ ap (λ (o : Option Instr). is_use l q o m) word)
         ∙ not_true (some_use w.image (from_restart w r s) (marks w r s)) (and_right (before_use w r s) _ unused)
 
@@ -111,14 +111,14 @@ module _ (w : World) (a : Accepted w) (x : Answer) (r : Run) where
     marked-behind : marks w next (suc s) ≡ behind_marks
     unfolding marks_with
     marked-behind =
-        same-marks w r next left.origin same.filled (suc s)
+        same-marks w r next left.origin stayed.filled (suc s)
         ∙ ap₂ (λ (o : Option State) (marks : Marks). marks_after_some w.image filled o marks) v.state v.marked ∙ ap (λ (o : Option Instr). marks_after l filled q o m) word
 
     -- settled bytes have copies, where those have that it settles
     copied-behind : KeepsCopies l r.shared next.shared → ((y : ℕ) → settles (instr_action l q (Some i)) filled y ≡ true → (y / 256 < all_regions l) × (0 < entry_of next.shared (y / 256))) → AreCopied w next (suc s)
     unfolding settled_with
     copied-behind keeps own y e =
-        by_case (or_cases (settled_with r.since.filled w r s y) _ (sym (same-settled w r next left.origin same.filled (suc s) y) ∙ e))
+        by_case (or_cases (settled_with r.since.filled w r s y) _ (sym (same-settled w r next left.origin stayed.filled (suc s) y) ∙ e))
       where
         by_case : (settled_with r.since.filled w r s y ≡ true) ⊎ (settles (action w r (suc s)) filled y ≡ true) → (y / 256 < all_regions l) × (0 < entry_of next.shared (y / 256))
         by_case (inl h) = let was = v.copied y h in (was.0, subst (λ n. 0 < n) (sym (keeps (y / 256) was.0 was.1)) was.1)
@@ -135,11 +135,11 @@ module _ (w : World) (a : Accepted w) (x : Answer) (r : Run) where
           state = from_restart-origin w r next left.origin (suc s) ∙ from_restart-next w r s ∙ ap (option_and_then (next_state w.image w.files all_taken)) v.state ∙ y.completes;
           goes_on = y.goes_on;
           agrees = agrees-as behind_marks new pt.regs y.state has y.agrees;
-          files = same.files ∙ v.files ∙ sym y.descriptors;
+          files = stayed.files ∙ v.files ∙ sym y.descriptors;
           sees = sees;
           copied = copied;
-          filled = λ k less. filled-same r next same.filled s v.filled k (omega (arith, less));
-          hints = same.hints ∙ v.hints ∙ sym (reads-stay s (ap read_in acts ∙ none)) ∙ sym (reads-origin w r next left.origin (suc s));
+          filled = λ k less. filled-same r next stayed.filled s v.filled k (omega (arith, less));
+          hints = stayed.hints ∙ v.hints ∙ sym (reads-stay s (ap read_in acts ∙ none)) ∙ sym (reads-origin w r next left.origin (suc s));
         }
 
   -- ---- behind each kind of instruction

@@ -194,22 +194,22 @@ module _ (w : World) (a : Accepted w) where
 
   -- ---- a block begins
 
+  -- an instruction of the text stands there, as the rows say it
+  pub flow-is : {p : ℕ} {i : Instr} → InText w p i → IsInstruction l p
+  flow-is is = record { lawful = a.lawful; above = is.above; below = is.below; whole = is.whole }
+
+  pub access-is : {p : ℕ} {i : Instr} → InText w p i → access.IsInstruction l p
+  access-is is = record { lawful = a.lawful; above = is.above; below = is.below; whole = is.whole }
+
+  pub site-is : {p : ℕ} {i : Instr} → InText w p i → IsSite l p
+  site-is is = record { lawful = a.lawful; above = is.above; below = is.below; whole = is.whole }
+
+  -- at word 1 of its block
+  unfoldable pub at-first : {p : ℕ} {h : Shade} (s : Point) → TableOk l s.tabs → (i : Instr) (Row : Place → Regs → Priv → Tabs → Memory → ℕ → Type 0) (n : ℕ) → InText w p i
+      → Sees l (block_at l p) h (record s { place = InBlock 1 }) h.shared → Row (InBlock 1) s.regs s.priv s.tabs h.shared n → At w (block_at l p) (block l p i) Row h n
+  at-first s ok i Row n is v row = record { code = is.code; point = record s { place = InBlock 1 }; shown = v; ok = ok; row = row }
+
   module _ (C : CallRows) (p : ℕ) (h : Shade) (s : Point) (ok : TableOk l s.tabs) (start : Starts C h) where
-    -- at word 1
-    first : (i : Instr) (Row : Place → Regs → Priv → Tabs → Memory → ℕ → Type 0) (n : ℕ) → InText w p i → Sees l (block_at l p) h (record s { place = InBlock 1 }) h.shared
-        → Row (InBlock 1) s.regs s.priv s.tabs h.shared n → At w (block_at l p) (block l p i) Row h n
-    first i Row n is v row = record { code = is.code; point = record s { place = InBlock 1 }; shown = v; ok = ok; row = row }
-
-    -- an instruction stands there
-    flow-is : (i : Instr) → InText w p i → IsInstruction l p
-    flow-is i is = record { lawful = a.lawful; above = is.above; below = is.below; whole = is.whole }
-
-    access-is : (i : Instr) → InText w p i → access.IsInstruction l p
-    access-is i is = record { lawful = a.lawful; above = is.above; below = is.below; whole = is.whole }
-
-    site-is : (i : Instr) → InText w p i → IsSite l p
-    site-is i is = record { lawful = a.lawful; above = is.above; below = is.below; whole = is.whole }
-
     abbrev Begun : Type 0
     Begun = (n : ℕ) × (n ≤ 227) × Sound w C h n
 
@@ -217,10 +217,10 @@ module _ (w : World) (a : Accepted w) where
     v1 = Sees l (block_at l p) h (record s { place = InBlock 1 }) h.shared
 
     computes : (i : Instr) → Computes i → InText w p i → v1 → Begun
-    computes i c is v = (2, omega arith, computing p i s.regs (flow-is i is) c (first i (bare (PlainRow i s.regs)) 2 is v (plain_starts i s.regs s.priv s.tabs)))
+    computes i c is v = (2, omega arith, computing p i s.regs (flow-is is) c (at-first s ok i (bare (PlainRow i s.regs)) 2 is v (plain_starts i s.regs s.priv s.tabs)))
 
     stops : (i : Instr) → Stops i → InText w p i → v1 → Begun
-    stops i c is v = (1, omega arith, parking p i s.regs (flow-is i is) c (first i (bare (ParkRow s.regs)) 1 is v (park_starts s.regs s.priv s.tabs)))
+    stops i c is v = (1, omega arith, parking p i s.regs (flow-is is) c (at-first s ok i (bare (ParkRow s.regs)) 1 is v (park_starts s.regs s.priv s.tabs)))
 
     by-instr : (i : Instr) → InText w p i → v1 → Begun
     by-instr (Lui rd imm) is v = computes (Lui rd imm) (a_lui rd imm) is v
@@ -232,34 +232,34 @@ module _ (w : World) (a : Accepted w) where
     by-instr (Auipc rd imm) is v = (
       4,
       omega arith,
-      quartering p rd imm s.regs (flow-is (Auipc rd imm) is) (is.encodable (λ e. not_illegal e))
-          (first (Auipc rd imm) (bare (AuipcRow rd (plus_int p imm) s.regs)) 4 is v (auipc_starts rd (plus_int p imm) s.regs s.priv s.tabs)),
+      quartering p rd imm s.regs (flow-is is) (is.encodable (λ e. not_illegal e))
+          (at-first s ok (Auipc rd imm) (bare (AuipcRow rd (plus_int p imm) s.regs)) 4 is v (auipc_starts rd (plus_int p imm) s.regs s.priv s.tabs)),
     )
       where
         not_illegal : Auipc rd imm ≡ Illegal → ⊥
         not_illegal e = cc
     by-instr (Jal rd imm) is v =
-        (6, omega arith, linking p rd imm s.regs (flow-is (Jal rd imm) is) (first (Jal rd imm) (bare (JalRow l p rd (plus_int p imm) s.regs)) 6 is v (jal_starts l p rd (plus_int p imm) s.regs s.priv s.tabs)))
+        (6, omega arith, linking p rd imm s.regs (flow-is is) (at-first s ok (Jal rd imm) (bare (JalRow l p rd (plus_int p imm) s.regs)) 6 is v (jal_starts l p rd (plus_int p imm) s.regs s.priv s.tabs)))
     by-instr (Jalr rd rs1 imm) is v =
-        (25, omega arith, going p rd rs1 imm s.regs (flow-is (Jalr rd rs1 imm) is) (first (Jalr rd rs1 imm) (bare (JalrRow l p rd rs1 imm s.regs)) 25 is v (jalr_starts l p rd rs1 imm s.regs s.priv s.tabs)))
+        (25, omega arith, going p rd rs1 imm s.regs (flow-is is) (at-first s ok (Jalr rd rs1 imm) (bare (JalrRow l p rd rs1 imm s.regs)) 25 is v (jalr_starts l p rd rs1 imm s.regs s.priv s.tabs)))
     by-instr (Branch op rs1 rs2 imm) is v = (
       2,
       omega arith,
-      branching p op rs1 rs2 imm s.regs (flow-is (Branch op rs1 rs2 imm) is) (first (Branch op rs1 rs2 imm) (bare (BranchRow op rs1 rs2 s.regs)) 2 is v (branch_starts op rs1 rs2 s.regs s.priv s.tabs)),
+      branching p op rs1 rs2 imm s.regs (flow-is is) (at-first s ok (Branch op rs1 rs2 imm) (bare (BranchRow op rs1 rs2 s.regs)) 2 is v (branch_starts op rs1 rs2 s.regs s.priv s.tabs)),
     )
     by-instr (Load op rd rs1 imm) is v = (
       227,
       omega arith,
-      loading p op rd rs1 imm s.regs (access-is (Load op rd rs1 imm) is)
-          (first (Load op rd rs1 imm) (bare (LoadsRow l p op rd rs1 imm s.regs None)) 227 is v (load_starts l p op rd rs1 imm s.regs None s.priv s.tabs)),
+      loading p op rd rs1 imm s.regs (access-is is)
+          (at-first s ok (Load op rd rs1 imm) (bare (LoadsRow l p op rd rs1 imm s.regs None)) 227 is v (load_starts l p op rd rs1 imm s.regs None s.priv s.tabs)),
     )
     by-instr (Store op rs1 rs2 imm) is v = (
       227,
       omega arith,
-      storing p op rs1 rs2 imm s.regs s.tabs (access-is (Store op rs1 rs2 imm) is)
-          (first (Store op rs1 rs2 imm) (StoresRow l p op rs1 rs2 imm s.regs unknown zeros s.tabs) 227 is v (store_starts l p op rs1 rs2 imm s.regs unknown zeros s.priv s.tabs h.shared (λ x i j. tt))),
+      storing p op rs1 rs2 imm s.regs s.tabs (access-is is)
+          (at-first s ok (Store op rs1 rs2 imm) (StoresRow l p op rs1 rs2 imm s.regs unknown zeros s.tabs) 227 is v (store_starts l p op rs1 rs2 imm s.regs unknown zeros s.priv s.tabs h.shared (λ x i j. tt))),
     )
-    by-instr Ecall is v = (31, omega arith, calling p s.regs (site-is Ecall is) (first Ecall (C p s.regs) 31 is v (start p s.regs s.priv s.tabs v.regs)))
+    by-instr Ecall is v = (31, omega arith, calling p s.regs (site-is is) (at-first s ok Ecall (C p s.regs) 31 is v (start p s.regs s.priv s.tabs v.regs)))
     by-instr Ebreak is v = stops Ebreak at_ebreak is v
     by-instr Hgate is v = stops Hgate at_gate is v
     by-instr Hleave is v = stops Hleave at_leave is v

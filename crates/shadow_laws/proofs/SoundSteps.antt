@@ -72,7 +72,7 @@ module _ (w : World) (a : Accepted w) where
         (λ d spot b unhinted e ok. let f = fills-keep_tables w r at.point.tabs d spot b unhinted a.lawful e at.shown.tabs ok in (f.tables, f.has, f.ok)) d
 
     -- at a row that a word has led to, in the same block
-    pub next : {base : ℕ} {words : List Instr} {Row Row' : Place → Regs → Priv → Tabs → Memory → ℕ → Type 0} {n k : ℕ} → At w base words Row (shade_of r) n
+    unfoldable pub next : {base : ℕ} {words : List Instr} {Row Row' : Place → Regs → Priv → Tabs → Memory → ℕ → Type 0} {n k : ℕ} → At w base words Row (shade_of r) n
         → (s : Point) → Sees l base after s after.shared → TableOk l s.tabs → Row' s.place s.regs s.priv s.tabs after.shared k → At w base words Row' after k
     next at s v ok row = record { code = at.code; point = s; shown = v; ok = ok; row = row }
 
