@@ -50,14 +50,6 @@ module _ (w : World) (r y : Run) (c : Carries w r y) where
   abbrev l : Layout
   l = w.image.layout
 
-  -- the states are the same
-  same-state : (i : ℕ) → from_restart w y i ≡ from_restart w r i
-  same-state = from_restart-origin w r y c.origin
-
-  -- so are the reads
-  same-reads : (i : ℕ) → reads w y i ≡ reads w r i
-  same-reads = reads-origin w r y c.origin
-
   -- an entry stays
   same-entry : (region : ℕ) → entry_of y.shared region ≡ entry_of r.shared region
   same-entry = entry-kept r.shared y.shared c.tables
@@ -127,7 +119,7 @@ module _ (w : World) (r y : Run) (c : Carries w r y) where
         count = c.count ∙ k.count;
         marked = same-marks w r y c.origin c.filled s ∙ k.marked;
         program_is = refl;
-        state = same-state s ∙ k.state;
+        state = from_restart-origin w r y c.origin s ∙ k.state;
         goes_on = k.goes_on;
         inside = k.inside;
         doing = k.doing;
@@ -140,7 +132,7 @@ module _ (w : World) (r y : Run) (c : Carries w r y) where
         anew = λ e. by_anew (k.anew e);
         copied = copied s k.copied;
         filled = filled-same r y c.filled s k.filled;
-        hints = c.hints ∙ k.hints ∙ sym (same-reads s);
+        hints = c.hints ∙ k.hints ∙ sym (reads-origin w r y c.origin s);
       }
     where
       earlier : (is_storing d ≡ false) ⊎ (is_arrival l y.shadow.pc ≡ true) → (is_storing d ≡ false) ⊎ (is_arrival l r.shadow.pc ≡ true)
@@ -158,7 +150,7 @@ module _ (w : World) (r y : Run) (c : Carries w r y) where
         count = c.count ∙ k.count;
         marked = same-marks w r y c.origin c.filled (suc s) ∙ k.marked;
         program_is = refl;
-        state = same-state (suc s) ∙ k.state;
+        state = from_restart-origin w r y c.origin (suc s) ∙ k.state;
         goes_on = k.goes_on;
         target = k.target;
         within = at-row (known l m q) program (λ e. false_true e) k.within;
@@ -169,7 +161,7 @@ module _ (w : World) (r y : Run) (c : Carries w r y) where
         sees = sees-with (suc s) m k.marked h k.copied q k.sees;
         copied = copied (suc s) k.copied;
         filled = filled-same r y c.filled (suc s) k.filled;
-        hints = c.hints ∙ k.hints ∙ sym (same-reads (suc s));
+        hints = c.hints ∙ k.hints ∙ sym (reads-origin w r y c.origin (suc s));
         unused = subst (λ b. IsTrue b) (sym (same-use w r y c.origin c.filled (suc s))) k.unused;
       }
 
@@ -183,14 +175,14 @@ module _ (w : World) (r y : Run) (c : Carries w r y) where
         within = at-row bytes program (λ e. false_true e) k.within;
         place = subst (λ (h : ShadowHart). Inner l h.pc (goes_to to g)) (sym c.shadow) k.place;
         behind = ap (λ (h : ShadowHart). is_behind_call w h.pc) c.shadow ∙ k.behind;
-        hints = λ before. c.hints ∙ k.hints (subst (λ b. IsTrue b) (same-horizon w r y c.origin c.filled s) before) ∙ sym (same-reads (suc s));
+        hints = λ before. c.hints ∙ k.hints (subst (λ b. IsTrue b) (same-horizon w r y c.origin c.filled s) before) ∙ sym (reads-origin w r y c.origin (suc s));
       }
 
   -- at word 1 of a block
   on-stands : (q : State) → Stands w r q → Stands w y q
   on-stands q k =
       record {
-        state = ap (from_restart w y) c.count ∙ same-state r.since.shadow ∙ k.state;
+        state = ap (from_restart w y) c.count ∙ from_restart-origin w r y c.origin r.since.shadow ∙ k.state;
         inside = k.inside;
         place = ap (λ (h : ShadowHart). h.pc) c.shadow ∙ k.place;
         agrees = subst (λ m. Agrees m y.shadow.registers q) marked (subst (λ (h : ShadowHart). Agrees (marks w r r.since.shadow) h.registers q) (sym c.shadow) k.agrees);
@@ -216,7 +208,7 @@ module _ (w : World) (r y : Run) (c : Carries w r y) where
       reach = hinted-by w r y (ap (λ (h : ShadowHart). h.pc) c.shadow) c.count
 
       hints-reach : r.since.hints ≡ reads w r (hinted_up_to w r) → y.since.hints ≡ reads w y (hinted_up_to w y)
-      hints-reach e = c.hints ∙ e ∙ sym (ap (reads w y) reach ∙ same-reads (hinted_up_to w r))
+      hints-reach e = c.hints ∙ e ∙ sym (ap (reads w y) reach ∙ reads-origin w r y c.origin (hinted_up_to w r))
 
   -- so the shadow follows still
   pub covered : Followed w r → Followed w y

@@ -24,6 +24,7 @@ use Rattle.run_model.specs.ShadowMoves.{fetch_shadow, is_running, is_arrival, is
 use Rattle.own_laws.proofs.Reached.{false_true}
 use Rattle.mark_laws.specs.Agreement.{assumed_answer, is_exit, is_read}
 use Rattle.shadow_laws.proofs.Sound.{parked_running}
+use Rattle.shadow_laws.proofs.LinkSteps.{stores-go_on}
 
 -- ---- what a word is said to do
 
@@ -448,15 +449,10 @@ call-halts w x r u (Read d spot a) cause e g = running_parked (ap (λ (h : Shado
 call-halts w x r u (Write to_out a n) cause e g = running_parked e g
 call-halts w x r u (Exit code) cause e g = record { hints = refl; filled = refl; files = refl; shared = refl; registers = refl; pc = refl }
 
--- a store leaves the state
-stores-run : (private : Bool) (r : Run) (a width v : ℕ) → (shadow_stores private r a width v).shadow.state ≡ r.shadow.state
-stores-run true r a width v = refl
-stores-run false r a width v = refl
-
 -- each outcome of the word that is fetched
 outcome-parks : (w : World) (x : Answer) (r : Run) (i : Instr) (y : Run) (cause : Park) → r.shadow.state ≡ Running → fetch_shadow w r.shadow.pc ≡ Some i → Outcome w x r i y → y.shadow.state ≡ Parked cause → Parks w r y
 outcome-parks w x r i y cause e f (goes rs pc) p = running_parked e p
-outcome-parks w x r i y cause e f (stores private a width v) p = running_parked (stores-run private r a width v ∙ e) p
+outcome-parks w x r i y cause e f (stores private a width v) p = running_parked (stores-go_on private r a width v ∙ e) p
 outcome-parks w x r i y cause e f faults p = record { hints = refl; filled = refl; files = refl; shared = refl; registers = refl; place = here refl }
 outcome-parks w x r i y cause e f (calls u g) p =
     let h : Halts r (assumed w x r u (shadow_plan w r)) = call-halts w x r u (shadow_plan w r) cause e p in

@@ -78,11 +78,13 @@ pad-quiet l words f (at_pad rs s) i e = let is : Some (ld 31 X31 0) ≡ Some i =
 
 -- ---- a store that parks has stored nothing
 
+-- an arrival and a word are counted, and the shadow's part is left
 counted-shade : (b : Bool) (r : Run) → shade_of (word_counted (arrived_if b r)) ≡ shade_of r
 counted-shade true r = refl
 counted-shade false r = refl
 
-stores-go_on : (b : Bool) (r : Run) (a width v : ℕ) → (shade_of (shadow_stores b r a width v)).hart.state ≡ r.shadow.state
+-- a store leaves the state
+pub stores-go_on : (b : Bool) (r : Run) (a width v : ℕ) → (shade_of (shadow_stores b r a width v)).hart.state ≡ r.shadow.state
 stores-go_on true r a width v = refl
 stores-go_on false r a width v = refl
 

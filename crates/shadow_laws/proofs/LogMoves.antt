@@ -4,7 +4,6 @@ use Rattle.std.specs.Prelude.{◌≢◌}
 use Rattle.spec_base.specs.Layout.{link_start}
 use Rattle.spec_base.specs.declared.note.ShadowState.{ShadowState}
 use Rattle.spec_base.specs.declared.note.ShadowState.TheVariants.{Never, Running, Stopped, Parked}
-use Rattle.spec_base.specs.declared.park.Park.{Park}
 use Rattle.rv_decode.specs.declared.instr.LoadOp.TheVariants.{Ld}
 use Rattle.rv_model.specs.Memory.{Memory, stored}
 use Rattle.rv_model.proofs.Results.{load-small}

@@ -1,15 +1,14 @@
 -- In every run of fewer than 2^64 - 1 moves the hint log is a queue while the shadow isn't stopped, and the shadow only appends to it.
-use Rattle.std.proofs.Common.{◌≡◌, ℕ, zero, suc, ◌+◌, ◌-◌, ◌^◌, ◌<◌, ◌⊎◌, inl, inr, Bool, true, false, List, [], ◌∷◌, ◌++◌, length, Option, Some, None, refl, ◌∙◌, ap, sym, subst, arith, drop}
+use Rattle.std.proofs.Common.{◌≡◌, ℕ, ◌+◌, ◌-◌, ◌^◌, ◌<◌, ◌⊎◌, inl, inr, Bool, true, false, List, [], ◌∷◌, ◌++◌, length, Option, Some, None, refl, ◌∙◌, ap, sym, subst, arith, drop}
 use Rattle.std.specs.Prelude.{◌≢◌}
 use Rattle.std.proofs.lemmas.List.{length-append, append-nil, append_assoc}
 use Rattle.spec_base.specs.declared.machine.View.TheVariants.{Program, Stub}
-use Rattle.spec_base.specs.declared.note.ShadowState.TheVariants.{Never, Running}
 use Rattle.spec_base.specs.declared.note.Move.{Move}
 use Rattle.spec_base.specs.declared.note.Move.TheVariants.{O, S, T, D}
 use Rattle.spec_base.specs.declared.note.Note.{Note}
 use Rattle.spec_base.specs.declared.spot.BlockSpot.{BlockSpot}
 use Rattle.spec_base.specs.declared.spot.ReadSpot.{ReadSpot}
-use Rattle.rv_model.specs.Memory.{Memory, zeros, loaded}
+use Rattle.rv_model.specs.Memory.{Memory, zeros}
 use Rattle.rv_model.specs.Effect.{fetched}
 use Rattle.program_model.specs.Cache.{Gathered, gather, blocks_of, in_flight}
 use Rattle.program_model.specs.Calls.{CallPlan, Set, Look, Read, Write, Exit}
@@ -39,7 +38,7 @@ use Rattle.run_model.specs.ShadowMoves.{shadow_step}
 use Rattle.shadow_laws.proofs.LogMoves.{Logged, ShadowMoved, one-more, shadow-moves, same-logged, own-logged, tail-small}
 use Rattle.shadow_laws.proofs.OwnShades.{Watched, watched_of, OwnShade, same, links, halts, begins, own-shade, fetch-shade, program_at-shade}
 use Rattle.shadow_laws.proofs.ShadowNumbers.{Sized, stock_of, run-sized}
-use Rattle.shadow_laws.proofs.ShadowRuns.{has-tables, run-keeps, gate-site, run-snoc}
+use Rattle.shadow_laws.proofs.ShadowRuns.{has-tables, run-keeps, gate-site, run-snoc, zeros-loaded}
 use Rattle.program_model.specs.PlainRun.{State}
 use Rattle.shadow_laws.proofs.Sound.{never_running}
 
@@ -372,11 +371,6 @@ module _ (w : World) (a : Accepted w) where
       by_end None z = going n z
 
   -- ---- each run
-
-  zeros-loaded : (b n : ℕ) → loaded zeros b n ≡ 0
-  unfolding loaded
-  zeros-loaded b zero = refl
-  zeros-loaded b (suc n) = omega (arith, zeros-loaded (b + 1) n)
 
   start-inv : Logged w (shade_of (opened_run w)) 0 × IsLog (opened_run w).shared
   start-inv =

@@ -60,7 +60,6 @@ use Rattle.code_model.specs.Blocks.{block}
 use Rattle.rv_model.specs.Space.{program_byte}
 use Rattle.rv_decode.specs.declared.instr.Instr.TheVariants.{Ecall}
 use Rattle.shadow_laws.proofs.TextBlocks.{text}
-use Rattle.spec_base.specs.declared.park.Park.{Park}
 use Rattle.rv_decode.specs.Instruction.{instr_of}
 use Rattle.spec_base.specs.declared.machine.Trap.{Trap}
 
@@ -170,6 +169,12 @@ pub record HasTables (w : World) (s : Watched) : Type 0 where
 pub has-tables : (w : World) (s : Watched) → Kept w s → HasTables w s
 has-tables w s (runs n h few) = let y : Standing w s.shade = stands w h in record { tables = y.tables; has = y.has; ok = y.ok; few = omega (arith, few) }
 has-tables w s (rests t has ok still few) = record { tables = t; has = has; ok = ok; few = few }
+
+-- what is loaded of no bytes is 0
+pub zeros-loaded : (b n : ℕ) → loaded zeros b n ≡ 0
+unfolding loaded
+zeros-loaded b zero = refl
+zeros-loaded b (suc n) = omega (arith, zeros-loaded (b + 1) n)
 
 module _ (w : World) (a : Accepted w) where
   abbrev l : Layout
@@ -346,11 +351,6 @@ module _ (w : World) (a : Accepted w) where
       (subst (λ r. Kept w (watched_of (step w r m))) e (move-keeps before m (subst (λ r. Kept w (watched_of r)) (sym e) k)))
 
   -- ---- the start
-
-  zeros-loaded : (b n : ℕ) → loaded zeros b n ≡ 0
-  unfolding loaded
-  zeros-loaded b zero = refl
-  zeros-loaded b (suc n) = omega (arith, zeros-loaded (b + 1) n)
 
   pub none-used : TableOk l (tabs_of zeros)
   none-used =

@@ -1,5 +1,5 @@
 -- The block of each instruction of the text, and the guard block behind them, are what the shadow fetches there.
-use Rattle.std.proofs.Common.{◌≡◌, ℕ, zero, suc, None, [], ◌+◌, ◌-◌, ◌*◌, ◌/◌, ◌%◌, ◌^◌, ◌≤◌, ◌<◌, ◌⊎◌, inl, inr, List, length, get_or, slice_get, Some, refl, ◌∙◌, ap, arith, replicate}
+use Rattle.std.proofs.Common.{◌≡◌, ℕ, zero, suc, [], ◌+◌, ◌-◌, ◌*◌, ◌/◌, ◌%◌, ◌^◌, ◌≤◌, ◌<◌, ◌⊎◌, inl, inr, List, length, get_or, slice_get, Some, refl, ◌∙◌, ap, arith, replicate}
 use Rattle.std.specs.Prelude.{◌≢◌, ◌∷◌, ◌++◌}
 use Rattle.std.proofs.lemmas.List.{length-take, length-map}
 use Rattle.std.proofs.lemmas.List.Elements.{All-get_or}
