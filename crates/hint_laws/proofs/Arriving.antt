@@ -120,6 +120,7 @@ module _ (w : World) (a : Accepted w) (x : Answer) (r : Run) where
     pub leaves : WordLeaves w r next
     leaves = word-leaves w x r runs
 
+    -- the hints, the filled reads and the descriptors stay
     pub stays : HintsStay r next
     stays = word-hints_stay w x r runs quiet
 
@@ -146,6 +147,7 @@ module _ (w : World) (a : Accepted w) (x : Answer) (r : Run) where
   HasReturned old m target rs (goes_to to g) = (target ≡ to) × (rs ≡ g) × (m ≡ old)
   HasReturned old m target rs _ = ⊤
 
+  -- so it is
   has-returned : {bytes : ℕ → Option ℕ} {program old m : Memory} {target : ℕ} {rs : Regs} {t : Tabs} {d : Doing} → Comes l bytes program old target rs t m d → HasReturned old m target rs d
   has-returned (flows arrives e) = tt
   has-returned (loads arrives e) = tt

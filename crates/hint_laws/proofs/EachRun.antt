@@ -65,6 +65,7 @@ module _ (w : World) (a : Accepted w) where
         by_count (inl e) = same r.since.shadow (omega arith) e
         by_count (inr e) = before_use_with-down w r r.since.filled r.since.shadow (same (suc r.since.shadow) (omega arith) e)
 
+    -- where the shadow runs
     running-followed : r.shadow.state ≡ Running → IsFollowed w next
     running-followed e is unused =
         let f : WordLeaves w r next = word-leaves w x r e in
@@ -91,6 +92,7 @@ module _ (w : World) (a : Accepted w) where
 
   -- ---- each move
 
+  -- each keeps the shadow following
   move-followed : (before : Moves) (m : Move × Answer) → IsFollowed w (run w before) → IsFollowed w (step w (run w before) m)
   move-followed before m k = by_move m.0 refl
     where
@@ -129,6 +131,7 @@ module _ (w : World) (a : Accepted w) where
 
   -- ---- each run
 
+  -- so do moves in a row
   moves-followed : (ms before : Moves) (r : Run) → run w before ≡ r → IsFollowed w r → IsFollowed w (run_from w r ms)
   unfolding run_from
   moves-followed [] before r e k = k
@@ -140,17 +143,21 @@ module _ (w : World) (a : Accepted w) where
   start-followed : IsFollowed w (opened_run w)
   start-followed is unused = absurd (omega (arith, is.restarted))
 
+  -- so it follows in every run
   pub run-followed : (ms : Moves) → IsFollowed w (run w ms)
   unfolding run_from
   run-followed ms = moves-followed ms [] (opened_run w) refl start-followed
 
 -- ---- the laws
 
+-- before the horizon the hints are the next reads
 pub hints_are_reads : HintsAreReads
 hints_are_reads w a ms is free = let r : Run = run w ms in before-horizon w a r (run-followed w a ms is (use_is_after_horizon w a ms r.since.shadow free)) free
 
+-- and the shadow stands for the state of the run from the restart
 pub shadow_follows : ShadowFollows
 shadow_follows w a ms is free arrives = let r : Run = run w ms in follows w a r (run-followed w a ms is (use_is_after_horizon w a ms r.since.shadow free)) free arrives
 
+-- until the first use both are so outside marked registers and bytes
 pub hints_until_use : HintsUntilUse
 hints_until_use w a ms is unused = follows_until_use w a (run w ms) (run-followed w a ms is unused)

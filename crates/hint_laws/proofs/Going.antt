@@ -184,6 +184,7 @@ module _ (w : World) (a : Accepted w) (x : Answer) (r : Run) where
           off (ap (is_arrival l) pc ∙ b.no_arrival) (ap (is_behind_call w) pc ∙ b.no_call) (park-call w r.shadow.pc (park-place w r.shadow.pc why f))
 
   module _ (cause : Park) (parks : next.shadow.state ≡ Parked cause) where
+    -- a parked shadow doesn't run
     still : next.shadow.state ≢ Running
     still f = parked_running (sym parks ∙ f)
 

@@ -72,6 +72,7 @@ module _ (w : World) (a : Accepted w) (x : Answer) (r : Run) where
   reads-stay (suc s) e = ap (λ more. reads w r (suc s) ++ more) e ∙ append-nil (reads w r (suc s))
 
   module _ {s : ℕ} {m : Marks} {q : State} {program : Memory} {d : Doing} {n : ℕ} (v : Works w r s m q program d n) (quiet : IsQuiet w r) (i : Instr) (word : instr_at w.image q ≡ Some i) where
+    -- the shadow runs
     runs : r.shadow.state ≡ Running
     runs = within-running v.within
 
@@ -79,6 +80,7 @@ module _ (w : World) (a : Accepted w) (x : Answer) (r : Run) where
     left : WordLeaves w r next
     left = leaves w a x r runs quiet
 
+    -- the hints, the filled reads and the descriptors stay
     stayed : HintsStay r next
     stayed = stays w a x r runs quiet
 

@@ -100,10 +100,11 @@ abbrev exits : Option ℕ → ℕ
 exits None = 0
 exits (Some code) = 1
 
--- those of a state, and of the one that a step leads to
+-- those of a state
 abbrev calls_of : State → ℕ
 calls_of s = length s.calls + exits s.exited
 
+-- those of the state that a step leads to
 abbrev calls_in : Step → ℕ
 calls_in (Went s) = calls_of s
 calls_in (Traps cause) = 0
@@ -204,12 +205,15 @@ module _ (w : World) (a : Accepted w) where
     abbrev l : Layout
     l = w.image.layout
 
+    -- the state at the gate
     abbrev q : State
     q = r.at_gate
 
+    -- its registers
     abbrev g : Regs
     g = regs_of q.registers
 
+    -- the run with the shadow begun anew
     abbrev anew-run : Run
     anew-run = restarted w r
 

@@ -72,10 +72,11 @@ filled-same r y e i f k above = ap (λ (numbers : List ℕ). is_listed numbers k
 pub hinted-by : (w : World) (r y : Run) → y.shadow.pc ≡ r.shadow.pc → y.since.shadow ≡ r.since.shadow → hinted_up_to w y ≡ hinted_up_to w r
 hinted-by w r y pc count = ap₂ (λ (pc n : ℕ). if is_behind_call w pc then n + 1 else n) pc count
 
--- they reach to the shadow's arrivals, and behind a call one further
+-- they reach to the shadow's arrivals where it is behind no call
 pub hinted-off : (w : World) (r : Run) → is_behind_call w r.shadow.pc ≡ false → hinted_up_to w r ≡ r.since.shadow
 hinted-off w r h = ap (λ (b : Bool). if b then r.since.shadow + 1 else r.since.shadow) h
 
+-- and one further behind a call
 pub hinted-on : (w : World) (r : Run) → is_behind_call w r.shadow.pc ≡ true → hinted_up_to w r ≡ suc r.since.shadow
 hinted-on w r h = ap (λ (b : Bool). if b then r.since.shadow + 1 else r.since.shadow) h ∙ omega arith
 

@@ -48,6 +48,7 @@ module _ (w : World) (bytes : ℕ → Option ℕ) (program program' : Memory) (h
   abbrev l : Layout
   l = w.image.layout
 
+  -- the shadow with other bytes shared
   abbrev changed : Shade
   changed = record h { shared = m }
 

@@ -263,11 +263,13 @@ is_calls Fails = false
 module _ (l : Layout) (program : Memory) (base : ℕ) (Row : Place → Regs → Priv → Tabs → Memory → ℕ → Type 0) (Arrives : ℕ → Regs → Tabs → Memory → Type 0) (Why : Park → Tabs → Memory → Type 0) (n : ℕ)
     (P : Memory → Type 0) (other : Memory) (never : P other → ⊥) (rows : (s : Point) (m : Memory) (k : ℕ) → Row s.place s.regs s.priv s.tabs m k → P m)
     (arrivals : (p : ℕ) (s : Point) (m : Memory) → Arrives p s.regs s.tabs m → P m) where
+  -- a word that goes on leads to a row or to an arrival, so P is so of what it leaves
   goes-so : (s : Point) (m : Memory) → Led l program base Row Arrives Why n (Goes s m) → P m
   goes-so s m (on {k} row ok less inner) = rows s m k row
   goes-so s m (leaps place e d) = goes-so (record s { place = place }) m d
   goes-so s m (led.arrives p e b y ok) = arrivals p s m y
 
+  -- so no word of these rows is an HCALL
   no-calls : (o : Out) → Led l program base Row Arrives Why n o → is_calls o ≡ false
   no-calls (Calls unhinted s m) (calls f ok) = absurd (never (goes-so _ other (f 0 s.tabs other (lit< tt) ok)))
   no-calls (Goes s m) d = refl
@@ -323,6 +325,7 @@ module _ (w : World) (a : Accepted w) (x : Answer) (r : Run) (z : Sized (stock_o
   abbrev program : Memory
   program = program_byte l (rewritten_words w) r.own.memory
 
+  -- to what a word leads
   abbrev LeadsOn : Doing → ℕ → Type 0
   LeadsOn d n = Leads w bytes program d n r after
 
@@ -364,9 +367,11 @@ module _ (w : World) (a : Accepted w) (x : Answer) (r : Run) (z : Sized (stock_o
   abbrev IsLeft : Memory → Type 0
   IsLeft m = (b : ℕ) → m b ≡ r.shared b
 
+  -- the raised memory isn't left
   not-left : IsLeft (raised r.shared) → ⊥
   not-left f = not-raised r.shared 0 (f 0)
 
+  -- one that is the same is
   same-left : {m : Memory} → m ≡ r.shared → IsLeft m
   same-left e b = ap (λ (m : Memory). m b) e
 

@@ -1,4 +1,4 @@
--- What one word of a running shadow does to a run: what each leaves, when an arrival is counted, and what a park and an assumed call do.
+-- What one word of a running shadow does to a run: what each leaves, when an arrival is counted, which reads are filled, and what a park and an assumed call do.
 use Rattle.std.proofs.Common.{◌≡◌, ℕ, pos, ◌+◌, ◌%◌, Bool, true, false, ◌&&◌, ◌==◌, List, [], ◌∷◌, ◌++◌, Option, Some, None, refl, ◌∙◌, ap, sym, subst}
 use Rattle.std.specs.Prelude.{◌≢◌}
 use Rattle.spec_base.specs.Word.{word_of_int, plus_int}
