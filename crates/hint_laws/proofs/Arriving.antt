@@ -14,12 +14,12 @@ use Rattle.run_model.specs.ShadowMoves.{is_arrival, shadow_step}
 use Rattle.run_model.specs.Restarts.{from_restart, instr_at, reads}
 use Rattle.run_model.specs.Marks.{Marks, marks, before_use}
 use Rattle.run_model.specs.OwnLaws.{Accepted}
+use Rattle.own_laws.proofs.Reached.{false_true}
 use Rattle.side_model.specs.Hart.{Regs}
 use Rattle.side_model.specs.Tables.{Tabs, TableOk}
 use Rattle.side_model.specs.Places.{address, HasBlock}
 use Rattle.side_model.specs.Words.{Point}
 use Rattle.side_model.specs.Sees.{shade_of, Sees, HasRegs}
-use Rattle.own_laws.proofs.Reached.{false_true}
 use Rattle.shadow_laws.proofs.ShadowRuns.{block-arrives}
 use Rattle.shadow_laws.proofs.TextBlocks.{InText}
 use Rattle.mark_laws.specs.Agreement.{Agrees, SeesAlike}

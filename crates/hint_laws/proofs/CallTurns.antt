@@ -3,6 +3,7 @@ use Rattle.std.proofs.Common.{◌≡◌, ℕ, zero, suc, ◌/◌, ◌%◌, ◌<�
 use Rattle.std.specs.Prelude.{IsTrue, ◌≢◌}
 use Rattle.std.specs.Option.{option_and_then}
 use Rattle.std.proofs.lemmas.Bool.Decides.{nat_tests}
+use Rattle.std.proofs.lemmas.Bool.{and_parts}
 use Rattle.spec_base.specs.Listed.{is_listed}
 use Rattle.spec_base.specs.Word.{word_of_int}
 use Rattle.spec_base.specs.declared.layout.Layout.{Layout}
@@ -24,8 +25,8 @@ use Rattle.run_model.specs.Marks.{Marks, marks, marks_with, marks_after, marks_a
 use Rattle.own_laws.proofs.Reached.{false_true}
 use Rattle.side_model.specs.Hart.{Regs, get}
 use Rattle.side_model.specs.Tables.{all_regions}
-use Rattle.shadow_laws.proofs.Sound.{Standing}
 use Rattle.side_model.specs.Sees.{shade_of}
+use Rattle.shadow_laws.proofs.Sound.{Standing}
 use Rattle.mark_laws.specs.Agreement.{Agrees, SeesAlike, planned, is_read, assumed_answer, HasAll, CallLeads}
 use Rattle.mark_laws.specs.Settled.{settles, settled_with, Alike}
 use Rattle.mark_laws.specs.Sizes.{TrueSizes}
@@ -39,7 +40,6 @@ use Rattle.hint_laws.proofs.Followed.{registers, view_in, AreCopied, FilledUpTo}
 use Rattle.hint_laws.proofs.WordFacts.{WordLeaves, word-leaves, word-calls, hints_behind, PlanDoes, ReadDoes, OtherLeaves}
 use Rattle.hint_laws.proofs.FilledViews.{NextNumbers, next-numbers, fills, SharedBehind, shared-behind}
 use Rattle.hint_laws.proofs.Transport.{no-reads}
-use Rattle.std.proofs.lemmas.Bool.{and_parts}
 use Rattle.hint_laws.proofs.FilledNumbers.{fills-alike}
 
 -- ---- plans and actions

@@ -14,18 +14,18 @@ use Rattle.run_model.specs.Restarts.{from_restart}
 use Rattle.run_model.specs.Marks.{before_use}
 use Rattle.run_model.specs.OwnLaws.{Accepted}
 use Rattle.run_model.specs.HintLaws.{HintsAreReads, ShadowFollows, HintsUntilUse}
+use Rattle.shadow_laws.proofs.ShadowNumbers.{Sized, stock_of, run-sized}
+use Rattle.shadow_laws.proofs.ShadowRuns.{resting-stays, run-snoc}
+use Rattle.shadow_laws.proofs.Sound.{never_running, stopped_running, parked_running}
 use Rattle.mark_laws.specs.Sizes.{TrueSizes}
 use Rattle.mark_laws.proofs.Horizons.{use_is_after_horizon}
 use Rattle.mark_laws.proofs.Numbers.{before_use_with-down}
 use Rattle.mark_laws.proofs.Sizes.{sizes_are_true}
-use Rattle.shadow_laws.proofs.ShadowNumbers.{Sized, stock_of, run-sized}
-use Rattle.shadow_laws.proofs.ShadowRuns.{resting-stays, run-snoc}
 use Rattle.hint_laws.proofs.FilledNumbers.{fills-use}
 use Rattle.hint_laws.proofs.WordFacts.{WordLeaves, word-leaves, word-fills, filled_behind}
 use Rattle.hint_laws.proofs.OwnMoves.{IsFollowed, own-followed, fetch-followed, counted-followed}
 use Rattle.hint_laws.proofs.EachWord.{word-followed}
 use Rattle.hint_laws.proofs.Promises.{before-horizon, follows, follows_until_use}
-use Rattle.shadow_laws.proofs.Sound.{never_running, stopped_running, parked_running}
 
 module _ (w : World) (a : Accepted w) where
   abbrev l : Layout

@@ -13,8 +13,8 @@ use Rattle.run_model.specs.Marks.{Marks, before_use}
 use Rattle.run_model.specs.OwnLaws.{Accepted}
 use Rattle.side_model.specs.Hart.{Regs}
 use Rattle.side_model.specs.Sees.{shade_of}
-use Rattle.mark_laws.specs.Sizes.{TrueSizes}
 use Rattle.shadow_laws.proofs.ShadowNumbers.{Sized, stock_of}
+use Rattle.mark_laws.specs.Sizes.{TrueSizes}
 use Rattle.hint_laws.proofs.Within.{AreSeen, Doing, does, goes_to, Within}
 use Rattle.hint_laws.proofs.WithinSteps.{Leads, goes, turns, reaches, halts, within-leads}
 use Rattle.hint_laws.proofs.Followed.{known, program_in, is_storing, is_restart, Works, Behind, Strays, Followed, works, behind, strays, rests}

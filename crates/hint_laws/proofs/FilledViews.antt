@@ -2,6 +2,7 @@
 use Rattle.std.proofs.Common.{◌≡◌, ℕ, zero, suc, ◌+◌, ◌/◌, ◌<◌, ◌≤◌, Bool, true, false, ◌||◌, ◌==◌, List, length, refl, ◌∙◌, ap, sym, subst, arith}
 use Rattle.std.specs.Prelude.{IsTrue}
 use Rattle.std.proofs.lemmas.Bool.Decides.{nat_tests}
+use Rattle.std.proofs.lemmas.Bool.{or_right, or_from}
 use Rattle.spec_base.specs.Listed.{is_listed}
 use Rattle.spec_base.specs.declared.layout.Layout.{Layout}
 use Rattle.spec_base.specs.declared.spot.ReadSpot.{ReadSpot}
@@ -13,19 +14,18 @@ use Rattle.code_model.specs.Regions.{entry_of, shadowed}
 use Rattle.run_model.specs.Run.{World, Run, rewritten_words}
 use Rattle.run_model.specs.ShadowMoves.{shadow_plan, fill, is_filled, hint_given}
 use Rattle.run_model.specs.OwnLaws.{Accepted}
+use Rattle.own_laws.proofs.Reached.{false_true}
 use Rattle.side_model.specs.Tables.{Tabs, HasTabs, TableOk, all_regions}
 use Rattle.rows_access.specs.Accesses.{seen}
 use Rattle.rows_log.specs.Fills.{bytes_set, IsFilled}
 use Rattle.rows_log.proofs.FilledReads.{fills-keep_tables}
 use Rattle.rows_log.proofs.FillViews.{written-none, written-alike}
 use Rattle.rows_log.proofs.PlannedReads.{read-planned, all_from-last, data-region}
-use Rattle.own_laws.proofs.Reached.{false_true}
 use Rattle.mark_laws.specs.Agreement.{is_read, assumed_memory, HasAll}
+use Rattle.mark_laws.proofs.Numbers.{is_listed-append}
 use Rattle.hint_laws.proofs.Followed.{view_in, program_in, FilledUpTo}
 use Rattle.hint_laws.proofs.WordFacts.{filled_behind, ReadDoes, OtherLeaves, PlanDoes}
 use Rattle.hint_laws.proofs.Views.{data-seen}
-use Rattle.std.proofs.lemmas.Bool.{or_right, or_from}
-use Rattle.mark_laws.proofs.Numbers.{is_listed-append}
 
 -- ---- the numbers of the filled reads
 

@@ -5,24 +5,25 @@ use Rattle.spec_base.specs.declared.layout.Layout.{Layout}
 use Rattle.spec_base.specs.declared.note.ShadowState.TheVariants.{Running, Parked}
 use Rattle.spec_base.specs.declared.park.Park.{Park}
 use Rattle.rv_model.specs.Memory.{Memory}
+use Rattle.rv_model.specs.Space.{program_byte}
 use Rattle.program_model.specs.PlainRun.{State}
 use Rattle.code_model.specs.Regions.{entry_of, slot_address, byte_by_entry, shadowed}
-use Rattle.own_laws.proofs.Reached.{false_true}
-use Rattle.rv_model.specs.Space.{program_byte}
 use Rattle.run_model.specs.Run.{World, Run, Answer, rewritten_words}
 use Rattle.run_model.specs.ShadowMoves.{is_arrival, shadow_step}
 use Rattle.run_model.specs.Marks.{Marks}
 use Rattle.run_model.specs.HintLaws.{is_behind_call}
 use Rattle.run_model.specs.OwnLaws.{Accepted}
+use Rattle.own_laws.proofs.Reached.{false_true}
 use Rattle.side_model.specs.Hart.{Regs}
 use Rattle.side_model.specs.Sees.{shade_of}
 use Rattle.side_model.specs.Tables.{all_regions}
+use Rattle.shadow_laws.proofs.AnyCalls.{LeavesTables}
+use Rattle.shadow_laws.proofs.ShadowRuns.{resting-stays}
+use Rattle.shadow_laws.proofs.Sound.{parked_running}
 use Rattle.mark_laws.specs.Agreement.{SeesAlike}
 use Rattle.mark_laws.specs.Settled.{settled_with}
 use Rattle.mark_laws.proofs.Numbers.{from_restart-origin, reads-origin}
 use Rattle.mark_laws.proofs.OneInstruction.{true_false}
-use Rattle.shadow_laws.proofs.AnyCalls.{LeavesTables}
-use Rattle.shadow_laws.proofs.ShadowRuns.{resting-stays}
 use Rattle.hint_laws.proofs.Within.{Doing, goes_to, Within, within-running}
 use Rattle.hint_laws.proofs.WithinSteps.{Leaves, all, tables, copies, clears, Inner, IsQuiet}
 use Rattle.hint_laws.proofs.Followed.{known, program_in, view_in, AreCopied, is_storing, is_restart, inner, Works, Behind, Strays, Rests, Followed, works, behind, strays, rests}
@@ -32,7 +33,6 @@ use Rattle.hint_laws.proofs.ParkPlaces.{IsBehindPark, behind-park, park-place}
 use Rattle.hint_laws.proofs.Spots.{inner-arrival, within-whole, park-call, going-some, going-last}
 use Rattle.hint_laws.proofs.Transport.{SameBut, copied-kept, filled-same, same-marks, same-use}
 use Rattle.hint_laws.proofs.Halts.{LeftAt, here, off, works-rests, behind-rests, strays-rests}
-use Rattle.shadow_laws.proofs.Sound.{parked_running}
 use Rattle.hint_laws.proofs.WithinStays.{entry-kept}
 
 -- ---- what the shadow has in place of the program's memory

@@ -4,13 +4,13 @@ use Rattle.std.specs.Prelude.{◌≢◌}
 use Rattle.spec_base.specs.declared.note.ShadowState.TheVariants.{Running}
 use Rattle.rv_model.specs.Memory.{Memory}
 use Rattle.program_model.specs.PlainRun.{State}
-use Rattle.own_laws.proofs.Reached.{false_true}
 use Rattle.run_model.specs.Run.{World, Run}
 use Rattle.run_model.specs.ShadowMoves.{is_arrival}
 use Rattle.run_model.specs.Restarts.{reads, before_horizon}
 use Rattle.run_model.specs.Marks.{Marks, before_use}
 use Rattle.run_model.specs.HintLaws.{is_behind_call, hinted_up_to}
 use Rattle.run_model.specs.OwnLaws.{Accepted}
+use Rattle.own_laws.proofs.Reached.{false_true}
 use Rattle.side_model.specs.Hart.{Regs}
 use Rattle.hint_laws.proofs.Within.{Doing}
 use Rattle.hint_laws.proofs.Followed.{Works, Behind, Strays, Stands, Rests, Followed, works, behind, strays, rests}

@@ -2,6 +2,7 @@
 use Rattle.std.proofs.Common.{◌≡◌, ℕ, zero, suc, ◌+◌, ◌/◌, ◌%◌, ◌<◌, ◌≤◌, ◌⊎◌, inl, inr, Bool, true, false, not, ◌&&◌, Option, Some, refl, ◌∙◌, ap, ap₂, sym, subst, arith}
 use Rattle.std.specs.Prelude.{IsTrue, ◌≢◌}
 use Rattle.std.proofs.Math.Path.{fun_ext}
+use Rattle.std.proofs.lemmas.Bool.{and_parts}
 use Rattle.spec_base.specs.declared.layout.Layout.{Layout}
 use Rattle.spec_base.specs.declared.note.ShadowState.TheVariants.{Running}
 use Rattle.rv_model.specs.Memory.{Memory}
@@ -13,21 +14,20 @@ use Rattle.run_model.specs.ShadowMoves.{is_arrival}
 use Rattle.run_model.specs.Restarts.{from_restart, reads, before_horizon}
 use Rattle.run_model.specs.Marks.{Marks, marks, marks_with, before_use}
 use Rattle.run_model.specs.HintLaws.{is_behind_call, hinted_up_to}
+use Rattle.own_laws.proofs.Reached.{none_some, false_true}
 use Rattle.side_model.specs.Hart.{Regs}
 use Rattle.side_model.specs.Sees.{shade_of}
 use Rattle.shadow_laws.proofs.AnyCalls.{LeavesTables}
-use Rattle.own_laws.proofs.Reached.{none_some, false_true}
 use Rattle.mark_laws.specs.Agreement.{Agrees, SeesAlike}
 use Rattle.mark_laws.specs.Settled.{settled_with, IsCovered}
 use Rattle.mark_laws.proofs.Numbers.{from_restart-origin, reads-origin}
+use Rattle.mark_laws.proofs.Horizons.{not_true}
 use Rattle.hint_laws.proofs.Within.{Doing, goes_to, Within, within-running}
 use Rattle.hint_laws.proofs.WithinSteps.{Inner}
 use Rattle.hint_laws.proofs.WithinStays.{LeavesBehindHead, entry-kept, LeavesKnown, within-stays}
 use Rattle.hint_laws.proofs.Followed.{known_if, known, program_in, view_in, AreCopied, is_storing, Works, Behind, Strays, Stands, Rests, Followed, works, behind, strays, rests}
 use Rattle.hint_laws.proofs.Transport.{same-marks, same-use, same-horizon, copied-kept, filled-same, spot-same, hinted-by}
 use Rattle.hint_laws.proofs.Views.{data-program}
-use Rattle.std.proofs.lemmas.Bool.{and_parts}
-use Rattle.mark_laws.proofs.Horizons.{not_true}
 
 -- what a run keeps of another: all that the shadow has, and what is counted since the restart; each byte of the program's memory that isn't covered from the shadow's instruction on; and table, list and copies, and while the shadow runs all behind the log's head
 pub record Carries (w : World) (r y : Run) : Type 0 where

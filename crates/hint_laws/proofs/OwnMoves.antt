@@ -23,11 +23,12 @@ use Rattle.own_laws.specs.StubLaws.{LeavesLink, left, takes_head, is_stopped}
 use Rattle.own_laws.proofs.HeldRuns.{stub_stops_first}
 use Rattle.own_laws.proofs.OwnLaws.{own_follows}
 use Rattle.own_laws.proofs.Reached.{none_some}
-use Rattle.rows_access.proofs.Copies.{patch-outside}
 use Rattle.side_model.specs.Sees.{Shade, shade_of}
+use Rattle.rows_access.proofs.Copies.{patch-outside}
 use Rattle.shadow_laws.proofs.AnyCalls.{LeavesTables}
 use Rattle.shadow_laws.proofs.OwnShades.{Watched, watched_of, OwnShade, same, links, halts, begins, own-shade, fetch-shade}
 use Rattle.shadow_laws.proofs.ShadowRuns.{run-snoc}
+use Rattle.shadow_laws.proofs.Sound.{stopped_running}
 use Rattle.mark_laws.specs.Settled.{IsCovered}
 use Rattle.mark_laws.proofs.Horizons.{and_left, and_right}
 use Rattle.mark_laws.proofs.OwnChanges.{own_changes_are_covered}
@@ -36,7 +37,6 @@ use Rattle.hint_laws.proofs.Followed.{Followed}
 use Rattle.hint_laws.proofs.OwnFollowed.{Carries, covered}
 use Rattle.hint_laws.proofs.OwnSince.{OwnSince, rests, counts, anew, own-since}
 use Rattle.hint_laws.proofs.Restarting.{begins-anew}
-use Rattle.shadow_laws.proofs.Sound.{stopped_running}
 use Rattle.hint_laws.proofs.Transport.{same-use}
 use Rattle.hint_laws.proofs.Halts.{stopped}
 use Rattle.hint_laws.proofs.Followed as followed

@@ -4,6 +4,7 @@ use Rattle.std.specs.Prelude.{◌≢◌}
 use Rattle.std.specs.Option.{option_and_then}
 use Rattle.std.proofs.lemmas.Option.{slice_get_within}
 use Rattle.std.proofs.lemmas.Bool.Decides.{nat_tests}
+use Rattle.std.proofs.lemmas.Bool.{and_left, and_right}
 use Rattle.spec_base.specs.Word.{plus_int}
 use Rattle.spec_base.specs.Layout.{shadow_start, helpers_start}
 use Rattle.spec_base.specs.declared.layout.Layout.{Layout}
@@ -11,15 +12,14 @@ use Rattle.spec_base.specs.declared.park.Park.{Park}
 use Rattle.rv_decode.specs.declared.instr.Instr.{Instr}
 use Rattle.rv_decode.specs.declared.instr.Instr.TheVariants.{Lui, Auipc, Jal, Jalr, Branch, Load, Store, OpImm, OpImmW, Op, OpW, Fence, Ecall, Ebreak, Hgate, Hleave, Hsite, Hkey, Hstop, Hrestart, Hcall, Hpark, Illegal}
 use Rattle.rv_decode.specs.declared.instr.StoreOp.{StoreOp}
-use Rattle.program_model.specs.PlainRun.{text_of}
 use Rattle.rv_model.specs.Effect.{after, fetched}
+use Rattle.program_model.specs.PlainRun.{text_of}
 use Rattle.code_model.specs.Helpers.{helpers}
 use Rattle.code_model.specs.Blocks.{block, guard_block, blocks_from, with_pad, jal_if, is_target, load_restore, link_spill, access_words, store_helper, store_end}
-use Rattle.own_laws.proofs.Reached.{none_some, false_true}
 use Rattle.run_model.specs.Run.{World}
 use Rattle.run_model.specs.ShadowMoves.{fetch_shadow, fetch_by, block_word, is_arrival}
 use Rattle.run_model.specs.HintLaws.{is_behind_call}
-use Rattle.std.proofs.lemmas.Bool.{and_left, and_right}
+use Rattle.own_laws.proofs.Reached.{none_some, false_true}
 
 -- ---- words
 

@@ -8,13 +8,13 @@ use Rattle.run_model.specs.ShadowMoves.{is_arrival}
 use Rattle.run_model.specs.Restarts.{from_restart, nothing, reads, unfilled, before_horizon}
 use Rattle.run_model.specs.Marks.{Marks, marks, before_use}
 use Rattle.run_model.specs.HintLaws.{is_behind_call, hinted_up_to, StandsFor, FollowsUntilUse}
+use Rattle.run_model.specs.OwnLaws.{Accepted}
+use Rattle.own_laws.proofs.Reached.{false_true}
 use Rattle.side_model.specs.Hart.{Regs}
 use Rattle.mark_laws.proofs.Horizons.{no_register-marked, marked-unfilled}
-use Rattle.run_model.specs.OwnLaws.{Accepted}
 use Rattle.hint_laws.proofs.Within.{Doing}
 use Rattle.hint_laws.proofs.Spots.{within-whole, inner-arrival, works-call, works-stands}
 use Rattle.hint_laws.proofs.Followed.{Works, Behind, Stands, Followed, works, behind, strays, rests}
-use Rattle.own_laws.proofs.Reached.{false_true}
 use Rattle.hint_laws.proofs.Transport.{hinted-off, hinted-on, no-reads}
 
 module _ (w : World) (a : Accepted w) (r : Run) where

@@ -26,6 +26,7 @@ use Rattle.run_model.specs.ShadowMoves.{shadow_step}
 use Rattle.run_model.specs.Restarts.{Action, from_restart, instr_at, instr_action, some_action, action, read_in, reads}
 use Rattle.run_model.specs.Marks.{Marks, mark_bytes, marks_after, marks_after_some, marks_with, marks, is_use, some_use, before_use_with, before_use}
 use Rattle.run_model.specs.OwnLaws.{Accepted}
+use Rattle.own_laws.proofs.Reached.{false_true}
 use Rattle.side_model.specs.Hart.{Regs, get}
 use Rattle.side_model.specs.Tables.{Tabs, all_regions}
 use Rattle.side_model.specs.Places.{width_of}
@@ -33,13 +34,12 @@ use Rattle.side_model.specs.Words.{Point}
 use Rattle.side_model.specs.Sees.{HasRegs}
 use Rattle.side_model.proofs.Registers.{HasRegs-put}
 use Rattle.rows_access.specs.Accesses as access
-use Rattle.rows_access.specs.Accesses.{load_size, store_size}
+use Rattle.rows_access.specs.Accesses.{store_size}
 use Rattle.rows_access.specs.LoadRows.{LoadArrives}
 use Rattle.rows_access.specs.StoreRows.{StoreArrives}
 use Rattle.rows_access.proofs.AccessPlaces.{same-region, load-width, store-width}
 use Rattle.rows_access.proofs.Reach.{Reached, reached as reaches_data}
 use Rattle.rows_flow.specs.Following.{GoesOn, FlowArrives}
-use Rattle.own_laws.proofs.Reached.{false_true}
 use Rattle.shadow_laws.proofs.TextBlocks.{text}
 use Rattle.mark_laws.specs.Agreement.{IsAt, SeesAlike, may_access, Leads, FlowLeads, StoreLeads}
 use Rattle.mark_laws.specs.Settled.{settles, settled_with}

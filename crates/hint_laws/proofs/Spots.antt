@@ -10,16 +10,17 @@ use Rattle.spec_base.specs.declared.layout.Layout.{Layout}
 use Rattle.rv_decode.specs.Instruction.{instr_of}
 use Rattle.rv_decode.specs.declared.instr.Instr.{Instr}
 use Rattle.rv_decode.specs.declared.instr.Instr.TheVariants.{Ecall}
+use Rattle.rv_decode.specs.Encoding.{HasRegisters}
 use Rattle.rv_model.specs.Memory.{Memory}
 use Rattle.program_model.specs.PlainRun.{State, text_of}
 use Rattle.code_model.specs.Places.{block_at}
-use Rattle.own_laws.proofs.Reached.{none_some, false_true}
 use Rattle.run_model.specs.Run.{World, Run}
 use Rattle.run_model.specs.ShadowMoves.{is_arrival}
 use Rattle.run_model.specs.Restarts.{instr_at, from_restart}
 use Rattle.run_model.specs.Marks.{Marks, marks}
 use Rattle.run_model.specs.HintLaws.{is_ecall, is_behind_call}
 use Rattle.run_model.specs.OwnLaws.{Accepted}
+use Rattle.own_laws.proofs.Reached.{none_some, false_true}
 use Rattle.side_model.specs.Hart.{Regs, Priv}
 use Rattle.side_model.specs.Tables.{Tabs}
 use Rattle.side_model.specs.Places.{Place, InBlock, InHelper, Away, address, HasBlock}
@@ -29,13 +30,12 @@ use Rattle.side_model.proofs.Numbers.{TextFits}
 use Rattle.rows_log.specs.RestartRows.{RestartedRow, UnboxedRow, r49, r50}
 use Rattle.shadow_laws.proofs.Sound.{is_helper}
 use Rattle.shadow_laws.proofs.TextBlocks.{text}
+use Rattle.mark_laws.specs.Agreement.{Agrees, SeesAlike}
 use Rattle.hint_laws.proofs.Within.{Doing, does, ends, restarts, goes_to, Within, computing, quartering, branching, linking, padding, going, jumping, parking, guarded, loading, storing, calling, answered, restarting, unboxing}
 use Rattle.hint_laws.proofs.WithinSteps.{Inner, in_block, in_helper, at_pad, behind_call, behind-is, restarted-place}
 use Rattle.hint_laws.proofs.Followed.{DoesOf, instruction, text_end, restart, regs_of, Spot, first, inner, Works, Stands, AreCopied, view_in}
 use Rattle.hint_laws.proofs.ParkPlaces.{ParkPlace, among_helpers, at_first, at_third, off-arrival, off-call, helper-arrival, helper-call}
 use Rattle.hint_laws.proofs.Views.{agrees-shown}
-use Rattle.mark_laws.specs.Agreement.{Agrees, SeesAlike}
-use Rattle.rv_decode.specs.Encoding.{HasRegisters}
 
 -- ---- what the shadow is doing
 

@@ -2,11 +2,13 @@
 use Rattle.std.proofs.Common.{◌≡◌, ℕ, zero, suc, ◌+◌, ◌-◌, ◌*◌, ◌/◌, ◌%◌, ◌<◌, ◌≤◌, ◌⊎◌, inl, inr, Bool, true, false, not, ◌==◌, nat_le, nat_lt, slice_get, Option, Some, refl, ◌∙◌, ap, sym, subst, arith}
 use Rattle.std.specs.Prelude.{◌≢◌, IsTrue}
 use Rattle.std.proofs.lemmas.Bool.Decides.{nat_tests}
+use Rattle.std.proofs.lemmas.Bool.{and_from}
 use Rattle.spec_base.specs.Layout.{shadow_start, helpers_start}
 use Rattle.spec_base.specs.declared.layout.Layout.{Layout}
 use Rattle.spec_base.specs.declared.note.ShadowState.TheVariants.{Running}
 use Rattle.rv_decode.specs.declared.instr.Instr.{Instr}
 use Rattle.rv_decode.specs.declared.instr.Instr.TheVariants.{Ecall}
+use Rattle.rv_decode.specs.Encoding.{HasRegisters}
 use Rattle.rv_model.specs.Memory.{Memory, any_from}
 use Rattle.rv_model.specs.Registers.{reg}
 use Rattle.rv_model.specs.Effect.{after}
@@ -24,6 +26,7 @@ use Rattle.side_model.specs.Sees.{shade_of}
 use Rattle.side_model.specs.Tables.{Tabs, HasTabs, all_regions}
 use Rattle.rows_log.specs.RestartRows.{IsFresh}
 use Rattle.rows_log.proofs.PlannedReads.{data-region}
+use Rattle.shadow_laws.proofs.TextBlocks.{text}
 use Rattle.mark_laws.specs.Agreement.{SeesAlike}
 use Rattle.mark_laws.specs.Sizes.{TrueSizes}
 use Rattle.hint_laws.proofs.Within.{Doing, goes_to, Within, within-stands, within-running}
@@ -33,9 +36,6 @@ use Rattle.hint_laws.proofs.Followed.{known, view_in, program_in, Works, Followe
 use Rattle.hint_laws.proofs.CallTurns.{AtCall, call-leaves, call-use, call-agrees, call-state, call-files, call-sees, call-registers, call-copied, call-filled, call-unused, call-hinted, call-unhinted, call-does, stray-hints}
 use Rattle.hint_laws.proofs.Spots.{InstructionStands, instr-stands, instruction-of}
 use Rattle.hint_laws.proofs.ParkPlaces.{off-arrival, helper-arrival, helper-call}
-use Rattle.std.proofs.lemmas.Bool.{and_from}
-use Rattle.shadow_laws.proofs.TextBlocks.{text}
-use Rattle.rv_decode.specs.Encoding.{HasRegisters}
 
 -- ---- the call's place
 

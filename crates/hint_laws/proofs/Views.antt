@@ -20,17 +20,17 @@ use Rattle.program_model.specs.PlainRun.{State}
 use Rattle.code_model.specs.Regions.{shadowed, byte_by_entry}
 use Rattle.run_model.specs.Restarts.{Other, instr_action, nothing}
 use Rattle.run_model.specs.Marks.{Marks, mark_bytes}
+use Rattle.own_laws.proofs.Reached.{false_true}
 use Rattle.side_model.specs.Hart.{Regs, get}
 use Rattle.side_model.specs.Sees.{HasRegs}
 use Rattle.side_model.specs.Tables.{Tabs, HasTabs}
 use Rattle.rows_access.specs.Accesses.{Allows, seen}
 use Rattle.rows_access.specs.StoreRows.{with_stored}
 use Rattle.rows_access.proofs.AccessPlaces.{seen-shadowed}
-use Rattle.own_laws.proofs.Reached.{false_true}
 use Rattle.mark_laws.specs.Agreement.{Agrees, SeesAlike, is_load}
+use Rattle.mark_laws.proofs.OneInstruction.{traps_on, calls_on, stores_on}
 use Rattle.hint_laws.proofs.Within.{joined, known_from, AreSeen, does}
 use Rattle.hint_laws.proofs.Followed.{known_if, known, registers, is_storing}
-use Rattle.mark_laws.proofs.OneInstruction.{traps_on, calls_on, stores_on}
 
 -- ---- data
 

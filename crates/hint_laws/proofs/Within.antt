@@ -2,6 +2,7 @@
 use Rattle.std.proofs.Common.{◌≡◌, ℕ, zero, suc, ◌+◌, ◌*◌, ◌≤◌, ◌⊎◌, inl, inr, false, ℤ, List, slice_get, Option, Some, None, refl, ◌∙◌, sym, arith}
 use Rattle.spec_base.specs.Word.{plus_int}
 use Rattle.spec_base.specs.declared.layout.Layout.{Layout}
+use Rattle.spec_base.specs.declared.note.ShadowState.TheVariants.{Running}
 use Rattle.rv_decode.specs.Encoding.{IsEncodable}
 use Rattle.rv_decode.specs.declared.instr.Instr.{Instr}
 use Rattle.rv_decode.specs.declared.instr.Instr.TheVariants.{Lui, Auipc, Jal, Jalr, Branch, Load, Store, OpImm, OpImmW, Op, OpW, Fence, Ecall, Ebreak, Hgate, Hleave, Hsite, Hkey, Hstop, Hrestart, Hcall, Hpark, Illegal}
@@ -42,7 +43,6 @@ use Rattle.rows_log.specs.RestartRows.{HasBox, RestartRow, RestartedRow}
 use Rattle.shadow_laws.proofs.AnyCalls.{AnyCallRow, b1, is_seventh}
 use Rattle.shadow_laws.proofs.Sound.{At, bare, Standing, stands-at, flow-is, access-is, site-is, at-first}
 use Rattle.shadow_laws.proofs.TextBlocks.{InText, at-block}
-use Rattle.spec_base.specs.declared.note.ShadowState.TheVariants.{Running}
 
 -- ---- what is known
 

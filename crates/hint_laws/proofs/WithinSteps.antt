@@ -24,6 +24,7 @@ use Rattle.run_model.specs.Run.{World, Run, Answer, rewritten_words}
 use Rattle.run_model.specs.ShadowMoves.{shadow_step, fetch_shadow, is_call_word}
 use Rattle.run_model.specs.HintLaws.{is_ecall}
 use Rattle.run_model.specs.OwnLaws.{Accepted}
+use Rattle.own_laws.proofs.Reached.{false_true}
 use Rattle.side_model.specs.Hart.{Regs, get, put, Priv}
 use Rattle.side_model.specs.Tables.{Tabs, HasTabs, TableOk, all_regions}
 use Rattle.side_model.specs.Places.{Place, InBlock, InHelper, Away, Jumping, address, is_inner, code, IsBase, HasBlock}
@@ -59,10 +60,9 @@ use Rattle.shadow_laws.proofs.ShadowNumbers.{Sized, stock_of}
 use Rattle.shadow_laws.proofs.Sound.{At, bare, is_helper, jump-place, Target, target-of, target-block, pad-target}
 use Rattle.shadow_laws.proofs.SoundSteps.{landed}
 use Rattle.shadow_laws.proofs.TextBlocks.{InText, at-address}
-use Rattle.hint_laws.proofs.Within.{known_from, AreSeen, Doing, does, ends, restarts, goes_to, joined, BehindRow, behind, Within, computing, quartering, branching, linking, padding, going, jumping, parking, guarded, loading, storing, calling, answered, restarting, unboxing}
-use Rattle.own_laws.proofs.Reached.{false_true}
-use Rattle.mark_laws.proofs.OneInstruction.{true_false}
 use Rattle.shadow_laws.proofs.SoundSteps.{next as step-to}
+use Rattle.mark_laws.proofs.OneInstruction.{true_false}
+use Rattle.hint_laws.proofs.Within.{known_from, AreSeen, Doing, does, ends, restarts, goes_to, joined, BehindRow, behind, Within, computing, quartering, branching, linking, padding, going, jumping, parking, guarded, loading, storing, calling, answered, restarting, unboxing}
 
 -- ---- what a word leaves
 

@@ -22,9 +22,9 @@ use Rattle.program_model.specs.PlainRun.{State}
 use Rattle.run_model.specs.Run.{World, Run, ShadowHart, Answer, Usual, Took, Failed, Lost, rewritten_words}
 use Rattle.run_model.specs.ShadowMoves.{fetch_shadow, is_running, is_arrival, is_call_word, shadow_at, parked, arrived_if, word_counted, shadow_plan, assumed, assumed_with, look_assumed, hint_given, fill, fill_if, is_filled, shadow_stores, shadow_after, shadow_at_word, shadow_in, shadow_step}
 use Rattle.own_laws.proofs.Reached.{false_true}
-use Rattle.mark_laws.specs.Agreement.{assumed_answer, is_exit, is_read}
 use Rattle.shadow_laws.proofs.Sound.{parked_running}
 use Rattle.shadow_laws.proofs.LinkSteps.{stores-go_on}
+use Rattle.mark_laws.specs.Agreement.{assumed_answer, is_exit, is_read}
 
 -- ---- what a word is said to do
 

@@ -2,6 +2,7 @@
 use Rattle.std.proofs.Common.{◌≡◌, ℕ, zero, suc, Bool, true, false, not, ◌&&◌, Option, Some, None, refl, ◌∙◌, ap, ◌==◌}
 use Rattle.std.specs.Prelude.{IsTrue}
 use Rattle.std.proofs.Math.Path.{fun_ext}
+use Rattle.std.proofs.lemmas.Bool.{and_parts}
 use Rattle.spec_base.specs.Listed.{is_listed}
 use Rattle.spec_base.specs.Word.{plus_int}
 use Rattle.spec_base.specs.declared.layout.Layout.{Layout}
@@ -19,7 +20,6 @@ use Rattle.run_model.specs.Restarts.{Action, Loads, Stores, Reads, TakesName, Ot
 use Rattle.run_model.specs.Marks.{Marks, with_mark, mark_register, marks_after_call, marks_after, marks_after_some, marks_with, marks, name_is_marked, is_use, some_use, before_use_with, before_use}
 use Rattle.run_model.specs.HintLaws.{UseIsAfterHorizon}
 use Rattle.own_laws.proofs.Reached.{false_true}
-use Rattle.std.proofs.lemmas.Bool.{and_parts}
 use Rattle.mark_laws.proofs.OneInstruction.{true_false}
 
 -- ---- parts of what holds at once

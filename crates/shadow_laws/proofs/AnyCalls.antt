@@ -10,6 +10,7 @@ use Rattle.rv_model.specs.Memory.{Memory, stored}
 use Rattle.rv_model.specs.Effect.{even}
 use Rattle.code_model.specs.Blocks.{block}
 use Rattle.code_model.specs.Places.{block_at, APPEND}
+use Rattle.own_laws.proofs.Reached.{false_true}
 use Rattle.side_model.specs.Hart.{Regs, put, Priv}
 use Rattle.side_model.specs.Tables.{Tabs, TableOk}
 use Rattle.side_model.specs.Places.{Away, Appending, LogFullUp, Place, InBlock, InHelper, code}
@@ -20,7 +21,6 @@ use Rattle.side_model.proofs.Numbers.{TextFits, text-fits}
 use Rattle.side_model.proofs.JumpWords.{forks}
 use Rattle.rows_access.proofs.Copies.{patch-outside}
 use Rattle.rows_log.specs.CallRows.{IsSite, with_29_31}
-use Rattle.own_laws.proofs.Reached.{false_true}
 
 -- the lowest six bits
 and_63 : (n : ℕ) → bit_and n 63 ≡ n % 64

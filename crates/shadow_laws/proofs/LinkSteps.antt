@@ -19,6 +19,7 @@ use Rattle.code_model.specs.Places.{block_at}
 use Rattle.run_model.specs.Run.{World, Run, Answer, rewritten_words}
 use Rattle.run_model.specs.ShadowMoves.{shadow_step, shadow_in, shadow_after, shadow_at_word, shadow_stores, arrived_if, word_counted, is_running, is_arrival, fetch_shadow}
 use Rattle.run_model.specs.OwnLaws.{Accepted}
+use Rattle.own_laws.proofs.Reached.{false_true, none_some}
 use Rattle.side_model.specs.Hart.{Regs, Priv}
 use Rattle.side_model.specs.Tables.{Tabs}
 use Rattle.side_model.specs.Places.{Place, Jumping, Faulting, address, code}
@@ -27,6 +28,7 @@ use Rattle.side_model.specs.Rows.{Led}
 use Rattle.side_model.specs.Sees.{Shade, shade_of, Landed, goes_on, arrived, parked}
 use Rattle.side_model.specs.JumpRows.{JumpRow, j1, j2, j3, j4, j5, j6, j7, j8, j9, j10, j11, j12, j13, j14, j15, j16, lands, faults, JumpFits}
 use Rattle.side_model.proofs.Fetching.{Fetches, code-fetches}
+use Rattle.side_model.proofs.JumpWords.{jump_leads}
 use Rattle.rows_access.proofs.LoadWords.{load_leads}
 use Rattle.rows_access.proofs.StoreWords.{store_leads}
 use Rattle.rows_access.proofs.StoreChanges.{store_keeps}
@@ -44,8 +46,6 @@ use Rattle.rows_log.proofs.RestartWords.{restart_leads, restarted_leads}
 use Rattle.shadow_laws.proofs.ShadowNumbers.{Sized, stock_of}
 use Rattle.shadow_laws.proofs.Sound.{CallRows, bare, PadAt, at_pad, unknown, At, Sound, computing, quartering, branching, linking, going, jumping, padded, parking, guarded, loading, storing, calling, restarting, unboxing, parked_running}
 use Rattle.shadow_laws.proofs.SoundSteps.{landed, pad-leads}
-use Rattle.side_model.proofs.JumpWords.{jump_leads}
-use Rattle.own_laws.proofs.Reached.{false_true, none_some}
 
 -- ---- words that aren't stores
 

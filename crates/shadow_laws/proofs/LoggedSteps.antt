@@ -14,6 +14,7 @@ use Rattle.run_model.specs.Run.{World, Run, Answer, rewritten_words}
 use Rattle.run_model.specs.ShadowMoves.{shadow_step}
 use Rattle.run_model.specs.OwnLaws.{Accepted}
 use Rattle.own_laws.proofs.Bounds.{Words}
+use Rattle.own_laws.proofs.Reached.{false_true}
 use Rattle.side_model.specs.Hart.{Regs, get, put, Priv}
 use Rattle.side_model.specs.Tables.{Tabs}
 use Rattle.side_model.specs.Places.{Place, InBlock, code}
@@ -29,7 +30,6 @@ use Rattle.shadow_laws.proofs.ShadowNumbers.{Sized, stock_of}
 use Rattle.shadow_laws.proofs.Sound.{CallRows, Starts, At, Sound, calling, Lands}
 use Rattle.shadow_laws.proofs.SoundSteps.{landed, settles, next, sound-steps, sound-stays}
 use Rattle.shadow_laws.proofs.LinkSteps.{link-steps, stored-by}
-use Rattle.own_laws.proofs.Reached.{false_true}
 
 -- ---- rows
 

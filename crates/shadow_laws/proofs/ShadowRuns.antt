@@ -13,18 +13,23 @@ use Rattle.spec_base.specs.declared.note.ShadowState.TheVariants.{Never, Running
 use Rattle.spec_base.specs.declared.note.Move.{Move}
 use Rattle.spec_base.specs.declared.note.Move.TheVariants.{O, S, T, D}
 use Rattle.spec_base.specs.declared.spot.ReadSpot.{ReadSpot}
+use Rattle.spec_base.specs.declared.machine.Trap.{Trap}
 use Rattle.rv_decode.specs.declared.instr.Instr.{Instr}
 use Rattle.rv_decode.specs.declared.instr.Instr.TheVariants.{Hkey, Hcall, Hpark}
+use Rattle.rv_decode.specs.declared.instr.Instr.TheVariants.{Ecall}
+use Rattle.rv_decode.specs.Instruction.{instr_of}
 use Rattle.rv_model.specs.Memory.{Memory, zeros, loaded}
 use Rattle.rv_model.specs.Rights.{in_private, shadow_rights}
 use Rattle.rv_model.specs.Effect.{Effect, Next, Stored, Trapped, Called, Gated, effect, fetched}
 use Rattle.rv_model.specs.Space.{shadow_sees}
+use Rattle.rv_model.specs.Space.{program_byte}
 use Rattle.program_model.specs.Cache.{in_flight}
 use Rattle.program_model.specs.Calls.{CallPlan, Set, Look, Read, Write, Exit}
 use Rattle.program_model.specs.PlainRun.{State, text_of, all_taken, at_word}
 use Rattle.program_model.specs.PlainRun as plain
 use Rattle.code_model.specs.Places.{block_at}
 use Rattle.code_model.specs.Regions.{entry_address}
+use Rattle.code_model.specs.Blocks.{block}
 use Rattle.run_model.specs.Run.{World, Run, RunEnd, Answer, Usual, Took, Failed, Lost, opened_run, rewritten_words}
 use Rattle.run_model.specs.OwnMoves.{own_step}
 use Rattle.run_model.specs.ShadowMoves.{fetch_shadow, is_running, is_arrival, arrived_if, word_counted, shadow_plan, assumed, look_assumed, hint_given, fill_if, is_filled, shadow_gate, shadow_stores, shadow_after, shadow_at_word, shadow_in, shadow_step}
@@ -45,6 +50,7 @@ use Rattle.side_model.proofs.Numbers.{TextFits}
 use Rattle.side_model.proofs.Private.{priv_of, HasPriv-of}
 use Rattle.side_model.proofs.Registers.{regs_of, HasRegs-of}
 use Rattle.side_model.proofs.Tabling.{HasTabs-below, HasTabs-of, tabs_of}
+use Rattle.side_model.specs.Hart.{Regs}
 use Rattle.rows_log.specs.CallRows.{IsSite}
 use Rattle.rows_log.specs.RestartRows.{HasBox}
 use Rattle.rows_log.proofs.RestartWords.{restart_starts}
@@ -55,13 +61,7 @@ use Rattle.shadow_laws.proofs.Sound as landing
 use Rattle.shadow_laws.proofs.SoundSteps.{sound-steps, sound-stays, landed, settles}
 use Rattle.shadow_laws.proofs.SoundSteps.{next as step-to}
 use Rattle.shadow_laws.proofs.AnyCalls.{AnyCallRow, b1, next-row, any_call-leads}
-use Rattle.side_model.specs.Hart.{Regs}
-use Rattle.code_model.specs.Blocks.{block}
-use Rattle.rv_model.specs.Space.{program_byte}
-use Rattle.rv_decode.specs.declared.instr.Instr.TheVariants.{Ecall}
 use Rattle.shadow_laws.proofs.TextBlocks.{text}
-use Rattle.rv_decode.specs.Instruction.{instr_of}
-use Rattle.spec_base.specs.declared.machine.Trap.{Trap}
 
 -- ---- what a word counts
 

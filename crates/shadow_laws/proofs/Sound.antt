@@ -17,6 +17,7 @@ use Rattle.code_model.specs.Blocks.{block, guard_block, is_target}
 use Rattle.code_model.specs.Places.{block_at}
 use Rattle.run_model.specs.Run.{World}
 use Rattle.run_model.specs.OwnLaws.{Accepted}
+use Rattle.own_laws.proofs.Reached.{false_true}
 use Rattle.side_model.specs.Hart.{Regs, Priv}
 use Rattle.side_model.specs.Tables.{Tabs, HasTabs, TableOk}
 use Rattle.side_model.specs.Places.{Place, InBlock, InHelper, Away, address, code, HasBlock}
@@ -42,7 +43,6 @@ use Rattle.rows_flow.proofs.JalrWords.{jalr_starts}
 use Rattle.rows_log.specs.CallRows.{IsSite}
 use Rattle.rows_log.specs.RestartRows.{HasBox, RestartRow, RestartedRow}
 use Rattle.shadow_laws.proofs.TextBlocks.{InText, at-address, at-block, text}
-use Rattle.own_laws.proofs.Reached.{false_true}
 
 -- ---- rows
 

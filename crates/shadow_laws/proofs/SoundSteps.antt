@@ -8,6 +8,7 @@ use Rattle.spec_base.specs.declared.layout.Layout.{Layout}
 use Rattle.spec_base.specs.declared.park.Park.{Park}
 use Rattle.rv_decode.specs.declared.instr.Instr.{Instr}
 use Rattle.rv_decode.specs.declared.instr.Instr.TheVariants.{Jal, Jalr}
+use Rattle.rv_decode.specs.declared.instr.Instr.TheVariants.{Ecall}
 use Rattle.rv_model.specs.Memory.{Memory, zeros, stored, patched}
 use Rattle.rv_model.specs.Space.{program_byte}
 use Rattle.rv_model.proofs.Results.{wrap-small}
@@ -17,6 +18,7 @@ use Rattle.code_model.specs.Places.{block_at}
 use Rattle.run_model.specs.Run.{World, Run, Answer, rewritten_words}
 use Rattle.run_model.specs.ShadowMoves.{shadow_step}
 use Rattle.run_model.specs.OwnLaws.{Accepted}
+use Rattle.own_laws.proofs.Reached.{none_some}
 use Rattle.side_model.specs.Hart.{Regs, get, put, Priv}
 use Rattle.side_model.specs.Tables.{Tabs, TableOk}
 use Rattle.side_model.specs.Places.{Place, InBlock, address, code, HasBlock}
@@ -40,7 +42,6 @@ use Rattle.rows_flow.proofs.BranchWords.{branch_leads}
 use Rattle.rows_flow.proofs.JalWords.{jal_leads}
 use Rattle.rows_flow.proofs.JalrWords.{jalr_leads}
 use Rattle.rows_flow.proofs.Crossing.{crossing-shows}
-use Rattle.rv_decode.specs.declared.instr.Instr.TheVariants.{Ecall}
 use Rattle.rows_log.specs.CallRows.{IsSite}
 use Rattle.rows_log.specs.RestartRows.{RestartNext, word, call}
 use Rattle.rows_log.proofs.FilledReads.{fills-keep_tables}
@@ -48,7 +49,6 @@ use Rattle.rows_log.proofs.RestartWords.{restart_leads, restarted_leads, box_sta
 use Rattle.shadow_laws.proofs.ShadowNumbers.{Sized, stock_of, shadow_key-small}
 use Rattle.shadow_laws.proofs.Sound.{CallRows, Starts, bare, PadAt, at_pad, unknown, At, Sound, computing, quartering, branching, linking, going, jumping, padded, parking, guarded, loading, storing, calling, restarting, unboxing, Lands, goes, reaches, halts, is_helper, jump-place, helper-address, pad-target, Target, target-of, target-block, begins}
 use Rattle.shadow_laws.proofs.TextBlocks.{InText, at-address, text}
-use Rattle.own_laws.proofs.Reached.{none_some}
 
 module _ (w : World) (a : Accepted w) where
   abbrev l : Layout

@@ -18,10 +18,10 @@ use Rattle.code_model.specs.Blocks.{block, guard_block, blocks_from, with_pad, p
 use Rattle.code_model.specs.Places.{block_at}
 use Rattle.run_model.specs.Run.{World}
 use Rattle.run_model.specs.OwnLaws.{Accepted}
+use Rattle.own_laws.proofs.Reached.{none_some}
 use Rattle.side_model.specs.Places.{IsBase, HasBlock}
 use Rattle.side_model.proofs.Fetching.{CodeAt, block_code}
 use Rattle.side_model.proofs.Numbers.{TextFits, text-fits}
-use Rattle.own_laws.proofs.Reached.{none_some}
 
 -- an instruction stands in the text, and its block in the shadow text
 pub record InText (w : World) (p : ℕ) (i : Instr) : Type 0 where
