@@ -33,7 +33,7 @@ use Rattle.hint_laws.proofs.ParkPlaces.{IsBehindPark, behind-park, park-place}
 use Rattle.hint_laws.proofs.Spots.{inner-arrival, within-whole, park-call, going-some, going-last}
 use Rattle.hint_laws.proofs.Transport.{SameBut, copied-kept, filled-same, same-marks, same-use}
 use Rattle.hint_laws.proofs.Halts.{LeftAt, here, off, works-rests, behind-rests, strays-rests}
-use Rattle.hint_laws.proofs.WithinStays.{entry-kept}
+use Rattle.shadow_laws.proofs.SoundSteps.{entry-kept}
 
 -- ---- what the shadow has in place of the program's memory
 

@@ -24,10 +24,11 @@ use Rattle.mark_laws.proofs.Numbers.{from_restart-origin, reads-origin}
 use Rattle.mark_laws.proofs.Horizons.{not_true}
 use Rattle.hint_laws.proofs.Within.{Doing, goes_to, Within, within-running}
 use Rattle.hint_laws.proofs.WithinSteps.{Inner}
-use Rattle.hint_laws.proofs.WithinStays.{LeavesBehindHead, entry-kept, LeavesKnown, within-stays}
+use Rattle.hint_laws.proofs.WithinStays.{LeavesKnown, within-stays}
 use Rattle.hint_laws.proofs.Followed.{known_if, known, program_in, view_in, AreCopied, is_storing, Works, Behind, Strays, Stands, Rests, Followed, works, behind, strays, rests}
 use Rattle.hint_laws.proofs.Transport.{same-marks, same-use, same-horizon, copied-kept, filled-same, spot-same, hinted-by}
 use Rattle.hint_laws.proofs.Views.{data-program}
+use Rattle.shadow_laws.proofs.SoundSteps.{LeavesBehindHead, entry-kept}
 
 -- what a run keeps of another: all that the shadow has, and what is counted since the restart; each byte of the program's memory that isn't covered from the shadow's instruction on; and table, list and copies, and while the shadow runs all behind the log's head
 pub record Carries (w : World) (r y : Run) : Type 0 where

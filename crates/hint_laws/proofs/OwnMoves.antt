@@ -32,7 +32,6 @@ use Rattle.shadow_laws.proofs.Sound.{stopped_running}
 use Rattle.mark_laws.specs.Settled.{IsCovered}
 use Rattle.mark_laws.proofs.Horizons.{and_left, and_right}
 use Rattle.mark_laws.proofs.OwnChanges.{own_changes_are_covered}
-use Rattle.hint_laws.proofs.WithinStays.{LeavesBehindHead}
 use Rattle.hint_laws.proofs.Followed.{Followed}
 use Rattle.hint_laws.proofs.OwnFollowed.{Carries, covered}
 use Rattle.hint_laws.proofs.OwnSince.{OwnSince, rests, counts, anew, own-since}
@@ -40,6 +39,7 @@ use Rattle.hint_laws.proofs.Restarting.{begins-anew}
 use Rattle.hint_laws.proofs.Transport.{same-use}
 use Rattle.hint_laws.proofs.Halts.{stopped}
 use Rattle.hint_laws.proofs.Followed as followed
+use Rattle.shadow_laws.proofs.SoundSteps.{LeavesBehindHead}
 
 -- the shadow follows its run, while it is to: there was a restart, the own hart hasn't been past the shadow since, each put was whole, and no use has come by the shadow's last instruction
 abbrev pub IsFollowed : World → Run → Type 0

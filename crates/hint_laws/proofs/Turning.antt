@@ -7,7 +7,7 @@ use Rattle.spec_base.specs.Layout.{shadow_start, helpers_start}
 use Rattle.spec_base.specs.declared.layout.Layout.{Layout}
 use Rattle.spec_base.specs.declared.note.ShadowState.TheVariants.{Running}
 use Rattle.rv_decode.specs.declared.instr.Instr.{Instr}
-use Rattle.rv_decode.specs.declared.instr.Instr.TheVariants.{Ecall}
+use Rattle.rv_decode.specs.declared.instr.Instr.TheVariants.{Ecall, Hcall}
 use Rattle.rv_decode.specs.Encoding.{HasRegisters}
 use Rattle.rv_model.specs.Memory.{Memory, any_from}
 use Rattle.rv_model.specs.Registers.{reg}
@@ -16,7 +16,7 @@ use Rattle.program_model.specs.PlainRun.{State, text_of}
 use Rattle.code_model.specs.Places.{block_at, FAULT}
 use Rattle.code_model.specs.Regions.{shadowed, byte_by_entry, entry_of}
 use Rattle.run_model.specs.Run.{World, Run, Answer}
-use Rattle.run_model.specs.ShadowMoves.{shadow_step, is_arrival, shadow_plan}
+use Rattle.run_model.specs.ShadowMoves.{shadow_step, is_arrival, shadow_plan, fetch_shadow}
 use Rattle.run_model.specs.OwnLaws.{Accepted}
 use Rattle.run_model.specs.Restarts.{Action, TakesName, from_restart, instr_at, call_action, nothing, reads}
 use Rattle.run_model.specs.Marks.{Marks, no_marks, marks, marks_with, name_is_marked, is_use, some_use, before_use, before_use_with}
@@ -32,7 +32,7 @@ use Rattle.mark_laws.specs.Sizes.{TrueSizes}
 use Rattle.hint_laws.proofs.Within.{Doing, goes_to, Within, within-stands, within-running}
 use Rattle.hint_laws.proofs.WithinSteps.{Inner, Turns, asks, asks_again}
 use Rattle.hint_laws.proofs.WithinFacts.{recast, within-answer, IsEarly, within-early}
-use Rattle.hint_laws.proofs.Followed.{known, view_in, program_in, Works, Followed, behind, strays}
+use Rattle.hint_laws.proofs.Followed.{known, view_in, program_in, Works, Followed, behind, strays, regs_of}
 use Rattle.hint_laws.proofs.CallTurns.{AtCall, call-leaves, call-use, call-agrees, call-state, call-files, call-sees, call-registers, call-copied, call-filled, call-unused, call-hinted, call-unhinted, call-does, stray-hints}
 use Rattle.hint_laws.proofs.Spots.{InstructionStands, instr-stands, instruction-of}
 use Rattle.hint_laws.proofs.ParkPlaces.{off-arrival, helper-arrival, helper-call}
@@ -190,28 +190,33 @@ module _ (w : World) (accepted : Accepted w) (x : Answer) (r : Run) (sizes : (q 
           hints = λ before. stray-hints w accepted x r s m q g u c runs used before later hints;
         })
 
+  -- a shadow that works on a call, at its HCALL
+  at-call : {s : ℕ} {m : Marks} {q : State} {program : Memory} {d : Doing} {n : ℕ} {u : Bool} → Works w r s m q program d n → instr_at w.image q ≡ Some Ecall → ((i : ℕ) → i ≤ 30 → reg r.shadow.registers i ≡ get i (regs_of d))
+      → SeesAlike w.image.layout m (view_in r) q → fetch_shadow w r.shadow.pc ≡ Some (Hcall u) → AtCall w r s m q (regs_of d) u
+  at-call works word has sees fetches =
+      record {
+        count = works.count;
+        marked = works.marked;
+        state = works.state;
+        goes_on = works.goes_on;
+        word = word;
+        agrees = works.agrees;
+        has = has;
+        files = works.files;
+        sees = sees;
+        copied = works.copied;
+        filled = works.filled;
+        fetches = fetches;
+        stands = within-stands works.within;
+      }
+
   -- an HCALL keeps a shadow that follows the program following it
   pub turned : {s : ℕ} {m : Marks} {q : State} {program : Memory} {d : Doing} {n : ℕ} → Works w r s m q program d n → (to : ℕ) (new : Regs) → Turns w r to new d
       → {bytes : ℕ → Option ℕ} {k : ℕ} → Within w bytes (program_in w r) (goes_to to new) (shade_of next) k → Inner w.image.layout next.shadow.pc (goes_to to new) → Followed w next
   turned {s} {m} {q} works to new (asks {p = p} {q = g} answer fetches at has is_next is_new) {bytes} {k} within place =
       let runs : next.shadow.state ≡ Running = within-running within in
       let is : (p ≡ q.pc) × (instr_at w.image q ≡ Some Ecall) × HasRegisters Ecall = instruction-of works.doing in
-      let c : AtCall w r s m q g false =
-      record {
-        count = works.count;
-        marked = works.marked;
-        state = works.state;
-        goes_on = works.goes_on;
-        word = is.1;
-        agrees = works.agrees;
-        has = λ i below. has.at i;
-        files = works.files;
-        sees = works.sees refl (inl refl);
-        copied = works.copied;
-        filled = works.filled;
-        fetches = fetches;
-        stands = within-stands works.within;
-      } in
+      let c : AtCall w r s m q g false = at-call works is.1 (λ i below. has.at i) (works.sees refl (inl refl)) fetches in
       let does = call-does w accepted x r s m q g false c runs (shadow_plan w r) refl in
       let site : BehindSite w accepted next.shadow.pc =
       subst (BehindSite w accepted) (sym does.pc) (behind-site w accepted q (instr-stands w accepted q Ecall is.1) r.shadow.pc (at ∙ ap (λ (b : ℕ). block_at w.image.layout b + 24) is.0)) in
@@ -228,22 +233,7 @@ module _ (w : World) (accepted : Accepted w) (x : Answer) (r : Run) (sizes : (q 
       let runs : next.shadow.state ≡ Running = within-running within in
       let is : (site ≡ q.pc) × (instr_at w.image q ≡ Some Ecall) = instruction-of works.doing in
       let anew : (s ≡ 0) × (r.own.memory ≡ q.memory) = works.anew refl in
-      let c : AtCall w r s m q g true =
-      record {
-        count = works.count;
-        marked = works.marked;
-        state = works.state;
-        goes_on = works.goes_on;
-        word = is.1;
-        agrees = works.agrees;
-        has = λ i below. has.at i ∙ loaded i below;
-        files = works.files;
-        sees = fresh-sees w r m q t tabs fresh anew.1;
-        copied = works.copied;
-        filled = works.filled;
-        fetches = fetches;
-        stands = within-stands works.within;
-      } in
+      let c : AtCall w r s m q g true = at-call works is.1 (λ i below. has.at i ∙ loaded i below) (fresh-sees w r m q t tabs fresh anew.1) fetches in
       let does = call-does w accepted x r s m q g true c runs (shadow_plan w r) refl in
       let from : IsEarly r.shadow.pc = within-early w (known w.image.layout m q) _ works.within in
       let behind : BehindRestart w accepted next.shadow.pc = subst (BehindRestart w accepted) (sym does.pc) (behind-restart w accepted r.shadow.pc from) in

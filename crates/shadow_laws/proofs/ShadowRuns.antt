@@ -1,5 +1,5 @@
 -- In every run a running shadow stands at a row, the table and the list are consistent, and the words of the shadow are few.
-use Rattle.std.proofs.Common.{◌≡◌, ℕ, zero, suc, ◌+◌, ◌-◌, ◌*◌, ◌/◌, ◌%◌, ◌^◌, ◌≤◌, ◌<◌, inr, Bool, true, false, ◌&&◌, List, [], ◌∷◌, ◌++◌, slice_get, Option, Some, None, refl, ◌∙◌, ap, sym, subst, arith, ◌==◌, nat_le, nat_lt, length}
+use Rattle.std.proofs.Common.{◌≡◌, ℕ, zero, suc, ◌+◌, ◌-◌, ◌*◌, ◌/◌, ◌%◌, ◌≤◌, ◌<◌, inr, Bool, true, false, ◌&&◌, List, [], ◌∷◌, ◌++◌, slice_get, Option, Some, None, refl, ◌∙◌, ap, sym, subst, arith, ◌==◌, nat_le, nat_lt, length}
 use Rattle.std.specs.Prelude.{◌≢◌}
 use Rattle.std.proofs.lemmas.List.{length-map}
 use Rattle.std.proofs.lemmas.Option.{slice_get_within}
@@ -36,7 +36,7 @@ use Rattle.run_model.specs.ShadowMoves.{fetch_shadow, is_running, is_arrival, ar
 use Rattle.run_model.specs.Moves.{Moves, step, step_unless, begun, run, run_from, shadow_while}
 use Rattle.run_model.specs.OwnLaws.{Accepted, RegionsBounded}
 use Rattle.run_model.specs.HintLaws.{WordsBounded}
-use Rattle.own_laws.specs.StubLaws.{LeavesLink, left, takes_head, is_stopped, RestartsFromBox}
+use Rattle.own_laws.specs.StubLaws.{LeavesLink, left, takes_head, is_stopped, RestartsFromBox, IsBoxed}
 use Rattle.own_laws.proofs.HeldRuns.{stub_stops_first, restart_has_box}
 use Rattle.own_laws.proofs.OneCall.{program_stub}
 use Rattle.own_laws.proofs.OwnLaws.{own_side}
@@ -52,7 +52,7 @@ use Rattle.side_model.proofs.Registers.{regs_of, HasRegs-of}
 use Rattle.side_model.proofs.Tabling.{HasTabs-below, HasTabs-of, tabs_of}
 use Rattle.side_model.specs.Hart.{Regs}
 use Rattle.rows_log.specs.CallRows.{IsSite}
-use Rattle.rows_log.specs.RestartRows.{HasBox}
+use Rattle.rows_log.specs.RestartRows.{HasBox, RestartRow}
 use Rattle.rows_log.proofs.RestartWords.{restart_starts}
 use Rattle.shadow_laws.proofs.OwnShades.{Watched, watched_of, with_shared, begun_anew, OwnShade, same, links, halts, begins, own-shade, fetch-shade}
 use Rattle.shadow_laws.proofs.ShadowNumbers.{Sized, stock_of, run-sized}
@@ -263,23 +263,33 @@ module _ (w : World) (a : Accepted w) where
   gate-site x r z (called t q s k page h f y e is) v n = absurd (placed w (λ r. (own_step w x r).restarts ≢ r.restarts → ⊥) r _ is (λ n. n refl) n)
   gate-site x r z (over s e h o) v n = none_some (sym z ∙ o.ended)
 
+  -- the block behind the call of a restart
+  pub restart-target : (r : Run) → IsSite l r.at_gate.pc → Target w (r.at_gate.pc + 4) (regs_of r.at_gate.registers)
+  restart-target r is = target-of w a (r.at_gate.pc + 4) (regs_of r.at_gate.registers) (let f : TextFits l = text w a in omega (arith, is.below, f.below))
+
+  -- the box that a state's call has filled
+  pub has-box : (m : Memory) (s : State) → IsBoxed m s → HasBox m s.pc (regs_of s.registers)
+  has-box m s boxed = record { holds = boxed.site; registers = λ i h. boxed.registers i h ∙ (HasRegs-of s.registers).at i }
+
   -- a shadow that is restarted stands at the first word of RESTART
-  pub restart-sound : (C : CallRows) (r next : Run) (t : Tabs) → HasTabs l r.shared t → TableOk l t → IsSite l r.at_gate.pc → RestartsFromBox r next → Sound w C (begun_anew r).shade (63 + 5 * t.count)
-  restart-sound C r next t has ok is box =
-      let site : ℕ = r.at_gate.pc in
-      let q = regs_of r.at_gate.registers in
-      let small : site + 4 < 2 ^ 64 = let f : TextFits l = text w a in omega (arith, is.below, f.below) in
-      let target : Target w (site + 4) q = target-of w a (site + 4) q small in
-      let has-box : HasBox r.shared site q =
-      subst (λ m. HasBox m site q) box.left (record { holds = box.boxed.site; registers = λ i h. box.boxed.registers i h ∙ (HasRegs-of r.at_gate.registers).at i }) in
-      restarting site q target.base target.words is target.fits
-      (record {
+  pub restart-at : (r : Run) (t : Tabs) → HasTabs l r.shared t → TableOk l t → HasBox r.shared r.at_gate.pc (regs_of r.at_gate.registers) → (target : Target w (r.at_gate.pc + 4) (regs_of r.at_gate.registers))
+      → At w target.base target.words (λ place rs s t m k. RestartRow l r.at_gate.pc (regs_of r.at_gate.registers) place rs s t k × HasBox m r.at_gate.pc (regs_of r.at_gate.registers)) (begun_anew r).shade (63 + 5 * t.count)
+  restart-at r t has ok box target =
+      record {
         code = target.code;
         point = record { place = InHelper Restarting 0; regs = regs_of r.shadow.registers; priv = priv_of r.shadow_page; tabs = t };
         shown = record { pc = refl; regs = HasRegs-of r.shadow.registers; priv = HasPriv-of r.shadow_page; tabs = has; shared = refl; running = refl };
         ok = ok;
-        row = (restart_starts l site q (regs_of r.shadow.registers) (priv_of r.shadow_page) t, has-box);
-      })
+        row = (restart_starts l r.at_gate.pc (regs_of r.at_gate.registers) (regs_of r.shadow.registers) (priv_of r.shadow_page) t, box);
+      }
+
+  -- that is a row of a shadow
+  pub restart-sound : (C : CallRows) (r next : Run) (t : Tabs) → HasTabs l r.shared t → TableOk l t → IsSite l r.at_gate.pc → RestartsFromBox r next → Sound w C (begun_anew r).shade (63 + 5 * t.count)
+  restart-sound C r next t has ok is box =
+      let q = regs_of r.at_gate.registers in
+      let target : Target w (r.at_gate.pc + 4) q = restart-target r is in
+      let filled : HasBox r.shared r.at_gate.pc q = subst (λ m. HasBox m r.at_gate.pc q) box.left (has-box next.shared r.at_gate box.boxed) in
+      restarting r.at_gate.pc q target.base target.words is target.fits (restart-at r t has ok filled target)
 
   restarted-stands : (r next : Run) → HasTables w (watched_of r) → IsSite l r.at_gate.pc → RestartsFromBox r next → watched_of next ≡ begun_anew r → Kept w (watched_of next)
   restarted-stands r next y is box e =
