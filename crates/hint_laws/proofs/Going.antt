@@ -20,6 +20,7 @@ use Rattle.side_model.specs.Tables.{all_regions}
 use Rattle.shadow_laws.proofs.AnyCalls.{LeavesTables}
 use Rattle.shadow_laws.proofs.ShadowRuns.{resting-stays}
 use Rattle.shadow_laws.proofs.Sound.{parked_running}
+use Rattle.shadow_laws.proofs.SoundSteps.{entry-kept}
 use Rattle.mark_laws.specs.Agreement.{SeesAlike}
 use Rattle.mark_laws.specs.Settled.{settled_with}
 use Rattle.mark_laws.proofs.Numbers.{from_restart-origin, reads-origin}
@@ -33,7 +34,6 @@ use Rattle.hint_laws.proofs.ParkPlaces.{IsBehindPark, behind-park, park-place}
 use Rattle.hint_laws.proofs.Spots.{inner-arrival, within-whole, park-call, going-some, going-last}
 use Rattle.hint_laws.proofs.Transport.{SameBut, copied-kept, filled-same, same-marks, same-use}
 use Rattle.hint_laws.proofs.Halts.{LeftAt, here, off, works-rests, behind-rests, strays-rests}
-use Rattle.shadow_laws.proofs.SoundSteps.{entry-kept}
 
 -- ---- what the shadow has in place of the program's memory
 

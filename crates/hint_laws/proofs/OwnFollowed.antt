@@ -18,6 +18,7 @@ use Rattle.own_laws.proofs.Reached.{none_some, false_true}
 use Rattle.side_model.specs.Hart.{Regs}
 use Rattle.side_model.specs.Sees.{shade_of}
 use Rattle.shadow_laws.proofs.AnyCalls.{LeavesTables}
+use Rattle.shadow_laws.proofs.SoundSteps.{LeavesBehindHead, entry-kept}
 use Rattle.mark_laws.specs.Agreement.{Agrees, SeesAlike}
 use Rattle.mark_laws.specs.Settled.{settled_with, IsCovered}
 use Rattle.mark_laws.proofs.Numbers.{from_restart-origin, reads-origin}
@@ -28,7 +29,6 @@ use Rattle.hint_laws.proofs.WithinStays.{LeavesKnown, within-stays}
 use Rattle.hint_laws.proofs.Followed.{known_if, known, program_in, view_in, AreCopied, is_storing, Works, Behind, Strays, Stands, Rests, Followed, works, behind, strays, rests}
 use Rattle.hint_laws.proofs.Transport.{same-marks, same-use, same-horizon, copied-kept, filled-same, spot-same, hinted-by}
 use Rattle.hint_laws.proofs.Views.{data-program}
-use Rattle.shadow_laws.proofs.SoundSteps.{LeavesBehindHead, entry-kept}
 
 -- what a run keeps of another: all that the shadow has, and what is counted since the restart; each byte of the program's memory that isn't covered from the shadow's instruction on; and table, list and copies, and while the shadow runs all behind the log's head
 pub record Carries (w : World) (r y : Run) : Type 0 where

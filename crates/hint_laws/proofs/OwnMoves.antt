@@ -29,6 +29,7 @@ use Rattle.shadow_laws.proofs.AnyCalls.{LeavesTables}
 use Rattle.shadow_laws.proofs.OwnShades.{Watched, watched_of, OwnShade, same, links, halts, begins, own-shade, fetch-shade}
 use Rattle.shadow_laws.proofs.ShadowRuns.{run-snoc}
 use Rattle.shadow_laws.proofs.Sound.{stopped_running}
+use Rattle.shadow_laws.proofs.SoundSteps.{LeavesBehindHead}
 use Rattle.mark_laws.specs.Settled.{IsCovered}
 use Rattle.mark_laws.proofs.Horizons.{and_left, and_right}
 use Rattle.mark_laws.proofs.OwnChanges.{own_changes_are_covered}
@@ -39,7 +40,6 @@ use Rattle.hint_laws.proofs.Restarting.{begins-anew}
 use Rattle.hint_laws.proofs.Transport.{same-use}
 use Rattle.hint_laws.proofs.Halts.{stopped}
 use Rattle.hint_laws.proofs.Followed as followed
-use Rattle.shadow_laws.proofs.SoundSteps.{LeavesBehindHead}
 
 -- the shadow follows its run, while it is to: there was a restart, the own hart hasn't been past the shadow since, each put was whole, and no use has come by the shadow's last instruction
 abbrev pub IsFollowed : World → Run → Type 0

@@ -10,9 +10,9 @@ use Rattle.side_model.specs.Sees.{Shade}
 use Rattle.rows_access.proofs.Reach.{region-of}
 use Rattle.rows_access.proofs.StoreChanges.{store_keeps}
 use Rattle.rows_log.proofs.RestartWords.{box_stays}
+use Rattle.shadow_laws.proofs.SoundSteps.{LeavesBehindHead, stays-at}
 use Rattle.hint_laws.proofs.Within.{Doing, Within, computing, quartering, branching, linking, padding, going, jumping, parking, guarded, loading, storing, calling, answered, restarting, unboxing}
 use Rattle.hint_laws.proofs.Followed.{is_storing}
-use Rattle.shadow_laws.proofs.SoundSteps.{LeavesBehindHead, stays-at}
 
 -- known bytes whose regions have no copy are left in the program's memory
 abbrev pub LeavesKnown : Layout → Memory → (ℕ → Option ℕ) → Memory → Memory → Type 0

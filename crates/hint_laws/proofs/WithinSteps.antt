@@ -58,9 +58,8 @@ use Rattle.shadow_laws.proofs.AnyCalls as any
 use Rattle.shadow_laws.proofs.AnyCalls.{AnyCallRow, AnyCallNext, LeavesTables, is_sixth, is_seventh, at-call, any_call-leads}
 use Rattle.shadow_laws.proofs.ShadowNumbers.{Sized, stock_of}
 use Rattle.shadow_laws.proofs.Sound.{At, bare, is_helper, jump-place, Target, target-of, target-block, pad-target}
-use Rattle.shadow_laws.proofs.SoundSteps.{landed}
+use Rattle.shadow_laws.proofs.SoundSteps.{landed, next as step-to}
 use Rattle.shadow_laws.proofs.TextBlocks.{InText, at-address}
-use Rattle.shadow_laws.proofs.SoundSteps.{next as step-to}
 use Rattle.mark_laws.proofs.OneInstruction.{true_false}
 use Rattle.hint_laws.proofs.Within.{known_from, AreSeen, Doing, does, ends, restarts, goes_to, joined, BehindRow, behind, Within, computing, quartering, branching, linking, padding, going, jumping, parking, guarded, loading, storing, calling, answered, restarting, unboxing}
 

@@ -15,6 +15,7 @@ use Rattle.rv_model.proofs.Results.{wrap-small}
 use Rattle.code_model.specs.Assembly.{X31, ld}
 use Rattle.code_model.specs.Blocks.{block, is_target}
 use Rattle.code_model.specs.Places.{block_at}
+use Rattle.code_model.specs.Regions.{entry_address, entry_of, listed_address}
 use Rattle.run_model.specs.Run.{World, Run, Answer, rewritten_words}
 use Rattle.run_model.specs.ShadowMoves.{shadow_step}
 use Rattle.run_model.specs.OwnLaws.{Accepted}
@@ -33,6 +34,7 @@ use Rattle.side_model.proofs.Stepping.{step-lands}
 use Rattle.rows_access.proofs.LoadWords.{load_leads}
 use Rattle.rows_access.proofs.StoreWords.{store_leads}
 use Rattle.rows_access.proofs.StoreChanges.{store_keeps}
+use Rattle.rows_access.proofs.AccessPlaces.{loaded-same}
 use Rattle.rows_flow.specs.Following.{IsInstruction}
 use Rattle.rows_flow.specs.JalRows.{JalRow, PadRow, Crosses, stays, crosses}
 use Rattle.rows_flow.specs.JalrRows.{JalrsRow}
@@ -48,8 +50,6 @@ use Rattle.rows_log.proofs.RestartWords.{restart_leads, restarted_leads, box_sta
 use Rattle.shadow_laws.proofs.ShadowNumbers.{Sized, stock_of, shadow_key-small}
 use Rattle.shadow_laws.proofs.Sound.{CallRows, Starts, bare, PadAt, at_pad, unknown, At, Sound, computing, quartering, branching, linking, going, jumping, padded, parking, guarded, loading, storing, calling, restarting, unboxing, Lands, goes, reaches, halts, is_helper, jump-place, helper-address, pad-target, Target, target-of, target-block, begins}
 use Rattle.shadow_laws.proofs.TextBlocks.{InText, at-address, text}
-use Rattle.code_model.specs.Regions.{entry_address, entry_of, listed_address}
-use Rattle.rows_access.proofs.AccessPlaces.{loaded-same}
 
 -- ---- other bytes are shared
 
