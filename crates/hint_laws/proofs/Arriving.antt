@@ -1,8 +1,7 @@
 -- A shadow that follows the program goes on following it where it arrives behind a call, and doesn't arrive there before the first use where the call is one.
-use Rattle.std.proofs.Common.{◌≡◌, ℕ, suc, ◌+◌, ◌-◌, ◌/◌, ◌%◌, ◌<◌, ◌≤◌, Bool, true, false, ◌&&◌, ◌==◌, nat_le, eq-eqb, Option, Some, None, List, slice_get, refl, ◌∙◌, ap, ap₂, sym, subst, arith}
+use Rattle.std.proofs.Common.{◌≡◌, ℕ, suc, ◌+◌, ◌-◌, ◌/◌, ◌%◌, ◌<◌, Bool, true, false, ◌&&◌, ◌==◌, nat_le, eq-eqb, Option, Some, None, slice_get, refl, ◌∙◌, ap, ap₂, sym, subst, arith}
 use Rattle.std.specs.Prelude.{⊤, IsTrue}
 use Rattle.std.proofs.lemmas.Bool.Decides.{nat_tests}
-use Rattle.spec_base.specs.Listed.{is_listed}
 use Rattle.spec_base.specs.declared.layout.Layout.{Layout}
 use Rattle.spec_base.specs.declared.note.ShadowState.TheVariants.{Running}
 use Rattle.rv_decode.specs.declared.instr.Instr.{Instr}
@@ -15,42 +14,22 @@ use Rattle.run_model.specs.ShadowMoves.{is_arrival, shadow_step}
 use Rattle.run_model.specs.Restarts.{from_restart, instr_at, reads}
 use Rattle.run_model.specs.Marks.{Marks, marks, before_use}
 use Rattle.run_model.specs.OwnLaws.{Accepted}
+use Rattle.own_laws.proofs.Reached.{false_true}
 use Rattle.side_model.specs.Hart.{Regs}
 use Rattle.side_model.specs.Tables.{Tabs, TableOk}
 use Rattle.side_model.specs.Places.{address, HasBlock}
 use Rattle.side_model.specs.Words.{Point}
-use Rattle.side_model.specs.Sees.{Shade, shade_of, Sees, HasRegs}
-use Rattle.own_laws.proofs.Reached.{false_true}
+use Rattle.side_model.specs.Sees.{shade_of, Sees, HasRegs}
 use Rattle.shadow_laws.proofs.ShadowRuns.{block-arrives}
 use Rattle.shadow_laws.proofs.TextBlocks.{InText}
 use Rattle.mark_laws.specs.Agreement.{Agrees, SeesAlike}
-use Rattle.mark_laws.specs.Settled.{Alike}
-use Rattle.mark_laws.proofs.Numbers.{alike-same, from_restart-origin, reads-origin, marks_with-alike, settled_with-alike, before_use_with-alike}
-use Rattle.hint_laws.proofs.Within.{Doing, does, ends, goes_to, Within, computing, quartering, branching, linking, padding, going, jumping, parking, guarded, loading, storing, calling, answered, restarting, unboxing, Begun, begun, at_end, begins}
+use Rattle.mark_laws.proofs.Numbers.{from_restart-origin, reads-origin}
+use Rattle.hint_laws.proofs.Within.{Doing, does, ends, goes_to, Within, Begun, begun, at_end, begins, within-running}
 use Rattle.hint_laws.proofs.WithinSteps.{KeepsCopies, IsQuiet, Comes, flows, loads, stores, returns}
 use Rattle.hint_laws.proofs.Followed.{known, registers, regs_of, program_in, view_in, AreCopied, FilledUpTo, DoesOf, instruction, text_end, is_restart, first, Behind, Strays, Followed, works}
 use Rattle.hint_laws.proofs.WordFacts.{WordLeaves, HintsStay, word-leaves, word-hints_stay}
 use Rattle.hint_laws.proofs.Views.{are-seen}
-
--- ---- the shadow runs
-
--- whatever it is doing, it runs
-pub within-runs : {w : World} {bytes : ℕ → Option ℕ} {program : Memory} {d : Doing} {h : Shade} {n : ℕ} → Within w bytes program d h n → h.hart.state ≡ Running
-within-runs (computing p i q is c at) = at.shown.running
-within-runs (quartering p rd imm q is f at) = at.shown.running
-within-runs (branching p op rs1 rs2 imm q is at) = at.shown.running
-within-runs (linking p rd imm q is at) = at.shown.running
-within-runs (padding p rd imm q words is f at) = at.shown.running
-within-runs (going p rd rs1 imm q is at) = at.shown.running
-within-runs (jumping p rd rs1 imm q base words is fits at) = at.shown.running
-within-runs (parking p i q is c at) = at.shown.running
-within-runs (guarded q at) = at.shown.running
-within-runs (loading p op rd rs1 imm q is at) = at.shown.running
-within-runs (storing p op rs1 rs2 imm q t0 is at) = at.shown.running
-within-runs (calling p q is at before) = at.shown.running
-within-runs (answered p answer q is at) = at.shown.running
-within-runs (restarting site q base words is fits at) = at.shown.running
-within-runs (unboxing site q base words is fits at) = at.shown.running
+use Rattle.hint_laws.proofs.Transport.{copied-kept, same-marks, filled-same, same-use}
 
 -- ---- the instruction there
 
@@ -141,12 +120,9 @@ module _ (w : World) (a : Accepted w) (x : Answer) (r : Run) where
     pub leaves : WordLeaves w r next
     leaves = word-leaves w x r runs
 
+    -- the hints, the filled reads and the descriptors stay
     pub stays : HintsStay r next
     stays = word-hints_stay w x r runs quiet
-
-    -- the runs are alike from the restart
-    pub alike : (c : ℕ) → Alike c r next r.since.filled next.since.filled
-    alike c = alike-same c r next leaves.origin stays.filled
 
     -- an arrival is counted
     pub counted : {p base : ℕ} {pt : Point} → Arrives p base pt → next.since.shadow ≡ suc r.since.shadow
@@ -158,17 +134,7 @@ module _ (w : World) (a : Accepted w) (x : Answer) (r : Run) where
 
     -- settled bytes still have copies
     pub copied-stays : (c : ℕ) → KeepsCopies l r.shared next.shared → AreCopied w r c → AreCopied w next c
-    copied-stays c keeps copied y e =
-        let was = copied y (sym (settled_with-alike w r next r.since.filled next.since.filled c (alike c) y) ∙ e) in
-        (was.0, subst (λ n. 0 < n) (sym (keeps (y / 256) was.0 was.1)) was.1)
-
-    -- no later read is filled
-    pub filled-stays : (c e : ℕ) → c ≤ e → FilledUpTo r c → FilledUpTo next e
-    filled-stays c e most filled k less = ap (λ (numbers : List ℕ). is_listed numbers k) stays.filled ∙ filled k (omega (arith, most, less))
-
-    -- whether there has been a use, too
-    pub used-stays : (c : ℕ) → before_use w next (suc c) ≡ before_use w r (suc c)
-    used-stays c = before_use_with-alike w r next r.since.filled next.since.filled c (alike c)
+    copied-stays c keeps = copied-kept w r next leaves.origin stays.filled c (λ region few some. subst (λ n. 0 < n) (sym (keeps region few some)) some)
 
   -- each copy is kept where nothing that is shared has changed
   pub keeps-all : next.shared ≡ r.shared → KeepsCopies l r.shared next.shared
@@ -181,6 +147,7 @@ module _ (w : World) (a : Accepted w) (x : Answer) (r : Run) where
   HasReturned old m target rs (goes_to to g) = (target ≡ to) × (rs ≡ g) × (m ≡ old)
   HasReturned old m target rs _ = ⊤
 
+  -- so it is
   has-returned : {bytes : ℕ → Option ℕ} {program old m : Memory} {target : ℕ} {rs : Regs} {t : Tabs} {d : Doing} → Comes l bytes program old target rs t m d → HasReturned old m target rs d
   has-returned (flows arrives e) = tt
   has-returned (loads arrives e) = tt
@@ -196,21 +163,21 @@ module _ (w : World) (a : Accepted w) (x : Answer) (r : Run) where
       came = has-returned comes
 
       runs : r.shadow.state ≡ Running
-      runs = within-runs v.within
+      runs = within-running v.within
 
       stands : StandsAt (suc s) m q pt
       stands =
           record {
             some = omega arith;
             count = counted runs quiet at ∙ ap suc v.count;
-            marked = marks_with-alike w r next r.since.filled next.since.filled (suc s) (alike runs quiet (suc s)) ∙ v.marked;
+            marked = same-marks w r next (leaves runs quiet).origin (stays runs quiet).filled (suc s) ∙ v.marked;
             state = from_restart-origin w r next (leaves runs quiet).origin (suc s) ∙ v.state;
             goes_on = v.goes_on;
             agrees = subst (λ (y : Regs). Agrees m (registers y) q) (sym came.1) v.agrees;
             files = (stays runs quiet).files ∙ v.files;
             sees = subst (λ (y : Memory). SeesAlike l m y q) (sym (view-stays runs quiet came.2)) v.sees;
             copied = copied-stays runs quiet (suc s) (keeps-all came.2) v.copied;
-            filled = filled-stays runs quiet (suc s) (suc s) (omega arith) v.filled;
+            filled = filled-same r next (stays runs quiet).filled (suc s) v.filled;
             hints = (stays runs quiet).hints ∙ v.hints ∙ sym (reads-origin w r next (leaves runs quiet).origin (suc s));
           }
 
@@ -220,6 +187,6 @@ module _ (w : World) (a : Accepted w) (x : Answer) (r : Run) where
   pub strayed : {s : ℕ} {bytes : ℕ → Option ℕ} {program : Memory} {to : ℕ} {g : Regs} {n : ℕ} {p base : ℕ} {pt : Point} → Strays w r s bytes program to g n → Arrives p base pt → IsQuiet w r
       → IsTrue (before_use w next next.since.shadow) → Followed w next
   strayed {s} v at quiet before =
-      let runs : r.shadow.state ≡ Running = within-runs v.within in
+      let runs : r.shadow.state ≡ Running = within-running v.within in
       let count : next.since.shadow ≡ suc s = counted runs quiet at ∙ ap suc v.count in
-      false_true (sym v.used ∙ sym (used-stays runs quiet s) ∙ sym (ap (before_use w next) count) ∙ before)
+      false_true (sym v.used ∙ sym (same-use w r next (leaves runs quiet).origin (stays runs quiet).filled (suc s)) ∙ sym (ap (before_use w next) count) ∙ before)

@@ -3,6 +3,7 @@ use Rattle.std.proofs.Common.{◌≡◌, ℕ, zero, suc, ◌/◌, ◌%◌, ◌<�
 use Rattle.std.specs.Prelude.{IsTrue, ◌≢◌}
 use Rattle.std.specs.Option.{option_and_then}
 use Rattle.std.proofs.lemmas.Bool.Decides.{nat_tests}
+use Rattle.std.proofs.lemmas.Bool.{and_parts}
 use Rattle.spec_base.specs.Listed.{is_listed}
 use Rattle.spec_base.specs.Word.{word_of_int}
 use Rattle.spec_base.specs.declared.layout.Layout.{Layout}
@@ -24,8 +25,8 @@ use Rattle.run_model.specs.Marks.{Marks, marks, marks_with, marks_after, marks_a
 use Rattle.own_laws.proofs.Reached.{false_true}
 use Rattle.side_model.specs.Hart.{Regs, get}
 use Rattle.side_model.specs.Tables.{all_regions}
-use Rattle.shadow_laws.proofs.Sound.{Standing}
 use Rattle.side_model.specs.Sees.{shade_of}
+use Rattle.shadow_laws.proofs.Sound.{Standing}
 use Rattle.mark_laws.specs.Agreement.{Agrees, SeesAlike, planned, is_read, assumed_answer, HasAll, CallLeads}
 use Rattle.mark_laws.specs.Settled.{settles, settled_with, Alike}
 use Rattle.mark_laws.specs.Sizes.{TrueSizes}
@@ -37,7 +38,9 @@ use Rattle.mark_laws.proofs.Horizons.{and_right, not_true, no_register-marked, b
 use Rattle.mark_laws.proofs.Sizes.{states_find_all}
 use Rattle.hint_laws.proofs.Followed.{registers, view_in, AreCopied, FilledUpTo}
 use Rattle.hint_laws.proofs.WordFacts.{WordLeaves, word-leaves, word-calls, hints_behind, PlanDoes, ReadDoes, OtherLeaves}
-use Rattle.hint_laws.proofs.FilledViews.{NextNumbers, next-numbers, numbers-alike, fills, SharedBehind, shared-behind}
+use Rattle.hint_laws.proofs.FilledViews.{NextNumbers, next-numbers, fills, SharedBehind, shared-behind}
+use Rattle.hint_laws.proofs.Transport.{no-reads}
+use Rattle.hint_laws.proofs.FilledNumbers.{fills-alike}
 
 -- ---- plans and actions
 
@@ -91,12 +94,7 @@ pub record SettledRead (plan : CallPlan) (filled : Bool) (x : ℕ) : Type 0 wher
 
 -- so it is by each plan
 settled-read : {plan : CallPlan} {act : Action} → CallIs plan act → (filled : Bool) (x : ℕ) → settles act filled x ≡ true → SettledRead plan filled x
-settled-read (a_read d spot a) filled x h = let both : (is_within a spot.count x ≡ true) × (filled ≡ true) = parts (is_within a spot.count x) filled h in record { d = d; spot = spot; a = a; is = refl; set = both.1; within = both.0 }
-  where
-    parts : (b c : Bool) → (b && c) ≡ true → (b ≡ true) × (c ≡ true)
-    parts true true h = (refl, refl)
-    parts true false h = false_true h
-    parts false c h = false_true h
+settled-read (a_read d spot a) filled x h = let both : (is_within a spot.count x ≡ true) × (filled ≡ true) = and_parts (is_within a spot.count x) filled h in record { d = d; spot = spot; a = a; is = refl; set = both.1; within = both.0 }
 settled-read (no_read e f g) filled x h = false_true (sym (g filled x) ∙ h)
 
 -- ---- at an HCALL
@@ -128,12 +126,6 @@ hints-plain w r next u plain does (no_read e f g) = let is : OtherLeaves r next 
 hints-again : {plan : CallPlan} {act : Action} (w : World) (r next : Run) (u : Bool) → u ≡ true → PlanDoes w u r next plan → CallIs plan act → next.since.hints ≡ r.since.hints
 hints-again w r next u again does (a_read d spot a) = let is : ReadDoes w u r next spot a = does.reads d spot a refl in is.hints ∙ ap (λ (b : Bool). hints_behind b spot r) again
 hints-again w r next u again does (no_read e f g) = let is : OtherLeaves r next = does.others e in is.hints
-
--- no reads are counted up to the first instruction
-no_reads : (w : World) (r y : Run) (s : ℕ) → s ≡ 0 → reads w r s ≡ reads w y (suc s)
-unfolding reads
-no_reads w r y zero e = refl
-no_reads w r y (suc s) e = absurd (omega (arith, e))
 
 -- the reads up to the next instruction, which isn't the first
 pub reads-next : (w : World) (r : Run) (s : ℕ) → 0 < s → reads w r (suc s) ≡ reads w r s ++ read_in (action w r (suc s))
@@ -171,12 +163,12 @@ module _ (w : World) (accepted : Accepted w) (x : Answer) (r : Run) (s : ℕ) (m
     call-shared = shared-behind w accepted u r next c.stands.tables c.stands.has c.stands.ok call-leaves.own plan e call-does
 
     -- the numbers of the filled reads
-    pub call-numbers : NextNumbers r next s (fills w u r plan)
+    pub call-numbers : NextNumbers next s (fills w u r plan)
     call-numbers = next-numbers r next s (fills w u r plan) c.count c.filled call-shared.numbers
 
     -- those up to s are as before
     pub call-alike : Alike s r next r.since.filled next.since.filled
-    call-alike = numbers-alike r next s (fills w u r plan) call-leaves.origin call-numbers
+    call-alike = fills-alike (fills w u r plan) r next s (omega (arith, c.count)) call-leaves.origin call-shared.numbers
 
     -- whether it is a use
     pub call-use : before_use w next (suc s) ≡ before_use w r (suc s)
@@ -226,7 +218,7 @@ module _ (w : World) (accepted : Accepted w) (x : Answer) (r : Run) (s : ℕ) (m
     shared = call-shared (plan_of l q) call-planned
 
     -- the numbers of the filled reads behind it
-    numbers : NextNumbers r next s filled
+    numbers : NextNumbers next s filled
     numbers = call-numbers (plan_of l q) call-planned
 
     -- those up to s are as before
@@ -309,7 +301,7 @@ module _ (w : World) (accepted : Accepted w) (x : Answer) (r : Run) (s : ℕ) (m
 
     -- HCALL 1 makes the call of the first instruction, whose read is none of them
     pub call-unhinted : u ≡ true → s ≡ 0 → r.since.hints ≡ reads w r s → next.since.hints ≡ reads w next (suc s)
-    call-unhinted again first hints = hints-again w r next u again does (call-is l q) ∙ (hints ∙ no_reads w r next s first)
+    call-unhinted again first hints = hints-again w r next u again does (call-is l q) ∙ (hints ∙ no-reads w r next s first)
 
   -- ---- where it is a use
 

@@ -1,12 +1,11 @@
 -- In every run the shadow follows the run from its restart until the first use: the laws of hints.
-use Rattle.std.proofs.Common.{◌≡◌, ℕ, suc, ◌+◌, ◌<◌, ◌≤◌, ◌⊎◌, inl, inr, Bool, true, false, List, [], ◌∷◌, ◌++◌, Option, Some, None, refl, ◌∙◌, ap, sym, subst, arith}
+use Rattle.std.proofs.Common.{◌≡◌, ℕ, suc, ◌<◌, ◌⊎◌, inl, inr, Bool, true, false, [], ◌∷◌, ◌++◌, Option, Some, None, refl, ◌∙◌, ap, sym, subst, arith, ◌≤◌}
 use Rattle.std.specs.Prelude.{◌≢◌, IsTrue}
 use Rattle.spec_base.specs.declared.layout.Layout.{Layout}
 use Rattle.spec_base.specs.declared.note.Move.{Move}
 use Rattle.spec_base.specs.declared.note.Move.TheVariants.{O, S, T, D}
 use Rattle.spec_base.specs.declared.note.ShadowState.{ShadowState}
 use Rattle.spec_base.specs.declared.note.ShadowState.TheVariants.{Never, Running, Stopped, Parked}
-use Rattle.spec_base.specs.declared.park.Park.{Park}
 use Rattle.program_model.specs.PlainRun.{State}
 use Rattle.run_model.specs.Run.{World, Run, RunEnd, Answer, opened_run}
 use Rattle.run_model.specs.ShadowMoves.{is_arrival, shadow_step}
@@ -14,70 +13,23 @@ use Rattle.run_model.specs.Moves.{Moves, begun, silent, step, step_unless, run, 
 use Rattle.run_model.specs.Restarts.{from_restart}
 use Rattle.run_model.specs.Marks.{before_use}
 use Rattle.run_model.specs.OwnLaws.{Accepted}
-use Rattle.run_model.specs.HintLaws.{IsFollowing, HintsAreReads, ShadowFollows, HintsUntilUse}
-use Rattle.side_model.specs.Sees.{Shade}
+use Rattle.run_model.specs.HintLaws.{HintsAreReads, ShadowFollows, HintsUntilUse}
+use Rattle.shadow_laws.proofs.ShadowNumbers.{Sized, stock_of, run-sized}
+use Rattle.shadow_laws.proofs.ShadowRuns.{resting-stays, run-snoc}
+use Rattle.shadow_laws.proofs.Sound.{never_running, stopped_running, parked_running}
 use Rattle.mark_laws.specs.Sizes.{TrueSizes}
 use Rattle.mark_laws.proofs.Horizons.{use_is_after_horizon}
 use Rattle.mark_laws.proofs.Numbers.{before_use_with-down}
 use Rattle.mark_laws.proofs.Sizes.{sizes_are_true}
-use Rattle.shadow_laws.proofs.ShadowNumbers.{Sized, stock_of, run-sized}
-use Rattle.shadow_laws.proofs.ShadowRuns.{resting-stays, run-snoc}
-use Rattle.hint_laws.proofs.Followed.{Followed, rests}
-use Rattle.hint_laws.proofs.FilledNumbers.{Fills, stay, step-fills, fills-use}
-use Rattle.hint_laws.proofs.WordFacts.{WordLeaves, word-leaves}
-use Rattle.hint_laws.proofs.Transport.{SameRun, followed-same}
-use Rattle.hint_laws.proofs.Halts.{stopped}
-use Rattle.hint_laws.proofs.OwnMoves.{IsFollowed, StoppingFollows, own-followed, fetch-followed}
+use Rattle.hint_laws.proofs.FilledNumbers.{fills-use}
+use Rattle.hint_laws.proofs.WordFacts.{WordLeaves, word-leaves, word-fills, filled_behind}
+use Rattle.hint_laws.proofs.OwnMoves.{IsFollowed, own-followed, fetch-followed, counted-followed}
 use Rattle.hint_laws.proofs.EachWord.{word-followed}
 use Rattle.hint_laws.proofs.Promises.{before-horizon, follows, follows_until_use}
-
--- what a running shadow has that isn't so of others
-other-running : {s : ShadowState} {A : Type 0} → s ≢ Running → s ≡ Running → A
-other-running n e = absurd (n e)
-
-stopped-other : Stopped ≢ Running
-stopped-other e = cc
-
-never-other : Never ≢ Running
-never-other e = cc
-
-parked-other : (cause : Park) → Parked cause ≢ Running
-parked-other cause e = cc
 
 module _ (w : World) (a : Accepted w) where
   abbrev l : Layout
   l = w.image.layout
-
-  -- ---- runs that are the same in all that is spoken of
-
-  same-followed : (r y : Run) → SameRun r y → y.restarts ≡ r.restarts → y.since.ahead ≡ r.since.ahead → y.since.whole ≡ r.since.whole → IsFollowed w r → IsFollowed w y
-  same-followed r y e n ahead whole k is unused =
-      followed-same w r y e
-      (k (record { restarted = subst (λ (n : ℕ). 0 < n) n is.restarted; ahead = subst IsTrue ahead is.ahead; whole = subst IsTrue whole is.whole })
-      (subst IsTrue (fills-use w r y r.since.shadow (omega arith) (stay e.origin e.filled)) (subst (λ (i : ℕ). IsTrue (before_use w y i)) e.count unused)))
-
-  -- nothing is told yet
-  begun-followed : (r : Run) → IsFollowed w r → IsFollowed w (begun r)
-  begun-followed r = same-followed r (begun r) (record { origin = refl; filled = refl; count = refl; hints = refl; shade = refl; memory = refl }) refl refl refl
-
-  silent-followed : (r : Run) → IsFollowed w r → IsFollowed w (silent r)
-  silent-followed r = same-followed r (silent r) (record { origin = refl; filled = refl; count = refl; hints = refl; shade = refl; memory = refl }) refl refl refl
-
-  -- a shadow that is stopped rests
-  stopping : StoppingFollows w
-  stopping r y origin filled count hints shade memory f =
-      rests
-      (stopped w a r y
-      (record {
-        origin = origin;
-        filled = filled;
-        count = count;
-        hints = hints;
-        registers = ap (λ (h : Shade). h.hart.registers) shade;
-        files = ap (λ (h : Shade). h.hart.files) shade;
-        shared = ap (λ (h : Shade). h.shared) shade;
-        memory = memory;
-      }) (ap (λ (h : Shade). h.hart.pc) shade) (λ e. stopped-other (sym (ap (λ (h : Shade). h.hart.state) shade) ∙ e)) f)
 
   -- ---- a word of the shadow
 
@@ -95,25 +47,30 @@ module _ (w : World) (a : Accepted w) where
 
         by_state : (s : ShadowState) → next.shadow.state ≡ s → (next.since.shadow ≡ r.since.shadow) ⊎ (next.since.shadow ≡ suc r.since.shadow)
         by_state Running e = by_place e (is_arrival l next.shadow.pc) refl
-        by_state Never e = inl (f.halts (λ g. never-other (sym e ∙ g)))
-        by_state Stopped e = inl (f.halts (λ g. stopped-other (sym e ∙ g)))
-        by_state (Parked cause) e = inl (f.halts (λ g. parked-other cause (sym e ∙ g)))
+        by_state Never e = inl (f.halts (λ g. never_running (sym e ∙ g)))
+        by_state Stopped e = inl (f.halts (λ g. stopped_running (sym e ∙ g)))
+        by_state (Parked cause) e = inl (f.halts (λ g. parked_running (sym e ∙ g)))
 
     -- where no use has come by then, none had come before
-    unused-before : WordLeaves w r next → IsTrue (before_use w next next.since.shadow) → IsTrue (before_use w r r.since.shadow)
-    unused-before f unused = by_count (counts f)
+    unused-before : r.shadow.state ≡ Running → WordLeaves w r next → IsTrue (before_use w next next.since.shadow) → IsTrue (before_use w r r.since.shadow)
+    unused-before running f unused = by_count (counts f)
       where
-        by_count : (next.since.shadow ≡ r.since.shadow) ⊎ (next.since.shadow ≡ suc r.since.shadow) → IsTrue (before_use w r r.since.shadow)
-        by_count (inl e) = subst IsTrue (fills-use w r next r.since.shadow (omega arith) (step-fills w x r)) (subst (λ (i : ℕ). IsTrue (before_use w next i)) e unused)
-        by_count (inr e) =
-            before_use_with-down w r r.since.filled r.since.shadow
-            (subst IsTrue (fills-use w r next (suc r.since.shadow) (omega arith) (step-fills w x r)) (subst (λ (i : ℕ). IsTrue (before_use w next i)) e unused))
+        fills : (b : Bool) × (next.since.filled ≡ filled_behind b r)
+        fills = word-fills w x r running
 
+        same : (i : ℕ) → i ≤ suc r.since.shadow → next.since.shadow ≡ i → IsTrue (before_use w r i)
+        same i few e = sym (fills-use w fills.0 r next i few f.origin fills.1) ∙ (ap (before_use w next) (sym e) ∙ unused)
+
+        by_count : (next.since.shadow ≡ r.since.shadow) ⊎ (next.since.shadow ≡ suc r.since.shadow) → IsTrue (before_use w r r.since.shadow)
+        by_count (inl e) = same r.since.shadow (omega arith) e
+        by_count (inr e) = before_use_with-down w r r.since.filled r.since.shadow (same (suc r.since.shadow) (omega arith) e)
+
+    -- where the shadow runs
     running-followed : r.shadow.state ≡ Running → IsFollowed w next
     running-followed e is unused =
         let f : WordLeaves w r next = word-leaves w x r e in
         word-followed w a x r z sizes
-        (k (record { restarted = subst (λ (n : ℕ). 0 < n) f.restarts is.restarted; ahead = subst IsTrue f.ahead is.ahead; whole = subst IsTrue f.whole is.whole }) (unused-before f unused)) unused
+        (k (record { restarted = subst (λ (n : ℕ). 0 < n) f.restarts is.restarted; ahead = subst IsTrue f.ahead is.ahead; whole = subst IsTrue f.whole is.whole }) (unused-before e f unused)) unused
 
     -- whether it runs or not
     shadow-followed : IsFollowed w next
@@ -124,9 +81,9 @@ module _ (w : World) (a : Accepted w) where
 
         by_state : (s : ShadowState) → r.shadow.state ≡ s → IsFollowed w next
         by_state Running e = running-followed e
-        by_state Never e = resting Never e never-other
-        by_state Stopped e = resting Stopped e stopped-other
-        by_state (Parked cause) e = resting (Parked cause) e (parked-other cause)
+        by_state Never e = resting Never e (λ g. never_running g)
+        by_state Stopped e = resting Stopped e (λ g. stopped_running g)
+        by_state (Parked cause) e = resting (Parked cause) e (λ g. parked_running g)
 
   -- only while the own hart waits
   while-followed : (b : Bool) (x : Answer) (r : Run) → Sized (stock_of r) → ((q : State) → from_restart w r r.since.shadow ≡ Some q → TrueSizes w.files q.files) → IsFollowed w r → IsFollowed w (shadow_while b w x r)
@@ -135,6 +92,7 @@ module _ (w : World) (a : Accepted w) where
 
   -- ---- each move
 
+  -- each keeps the shadow following
   move-followed : (before : Moves) (m : Move × Answer) → IsFollowed w (run w before) → IsFollowed w (step w (run w before) m)
   move-followed before m k = by_move m.0 refl
     where
@@ -144,13 +102,16 @@ module _ (w : World) (a : Accepted w) where
       x : Answer
       x = m.1
 
+      begun-followed : IsFollowed w (begun r)
+      begun-followed = counted-followed w r (begun r) refl refl k
+
       sizes : (q : State) → from_restart w (begun r) (begun r).since.shadow ≡ Some q → TrueSizes w.files q.files
       sizes q e = (sizes_are_true w a before).restarted r.since.shadow q e
 
       by_end : (e : Option RunEnd) → (n : Move) → (n ≡ S) ⊎ (n ≡ T) → IsFollowed w (step_unless e w r (n, x))
-      by_end (Some e) n is = silent-followed r k
-      by_end None S is = shadow-followed x (begun r) (run-sized w a before) sizes (begun-followed r k)
-      by_end None T is = while-followed r.stalled x (begun r) (run-sized w a before) sizes (begun-followed r k)
+      by_end (Some e) n is = counted-followed w r (silent r) refl refl k
+      by_end None S is = shadow-followed x (begun r) (run-sized w a before) sizes begun-followed
+      by_end None T is = while-followed r.stalled x (begun r) (run-sized w a before) sizes begun-followed
       by_end None O is = absurd (no is)
         where
           no : (O ≡ S) ⊎ (O ≡ T) → ⊥
@@ -163,13 +124,14 @@ module _ (w : World) (a : Accepted w) where
           no (inr e) = cc
 
       by_move : (n : Move) → m.0 ≡ n → IsFollowed w (step w r (n, x))
-      by_move O e = own-followed w a before x stopping k
+      by_move O e = own-followed w a before x k
       by_move D e = fetch-followed w r x k
       by_move S e = by_end r.end S (inl refl)
       by_move T e = by_end r.end T (inr refl)
 
   -- ---- each run
 
+  -- so do moves in a row
   moves-followed : (ms before : Moves) (r : Run) → run w before ≡ r → IsFollowed w r → IsFollowed w (run_from w r ms)
   unfolding run_from
   moves-followed [] before r e k = k
@@ -181,17 +143,21 @@ module _ (w : World) (a : Accepted w) where
   start-followed : IsFollowed w (opened_run w)
   start-followed is unused = absurd (omega (arith, is.restarted))
 
+  -- so it follows in every run
   pub run-followed : (ms : Moves) → IsFollowed w (run w ms)
   unfolding run_from
   run-followed ms = moves-followed ms [] (opened_run w) refl start-followed
 
 -- ---- the laws
 
+-- before the horizon the hints are the next reads
 pub hints_are_reads : HintsAreReads
 hints_are_reads w a ms is free = let r : Run = run w ms in before-horizon w a r (run-followed w a ms is (use_is_after_horizon w a ms r.since.shadow free)) free
 
+-- and the shadow stands for the state of the run from the restart
 pub shadow_follows : ShadowFollows
 shadow_follows w a ms is free arrives = let r : Run = run w ms in follows w a r (run-followed w a ms is (use_is_after_horizon w a ms r.since.shadow free)) free arrives
 
+-- until the first use both are so outside marked registers and bytes
 pub hints_until_use : HintsUntilUse
 hints_until_use w a ms is unused = follows_until_use w a (run w ms) (run-followed w a ms is unused)

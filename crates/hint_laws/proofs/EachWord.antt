@@ -1,5 +1,5 @@
 -- Each word of a shadow that follows keeps it following.
-use Rattle.std.proofs.Common.{◌≡◌, ℕ, ◌+◌, ◌<◌, ◌⊎◌, inl, inr, Bool, true, false, ℤ, Option, Some, None, refl, ◌∙◌, ap, sym, subst, arith}
+use Rattle.std.proofs.Common.{◌≡◌, ℕ, inl, ℤ, Option, Some, ap, sym, subst}
 use Rattle.std.specs.Prelude.{IsTrue}
 use Rattle.spec_base.specs.declared.layout.Layout.{Layout}
 use Rattle.rv_decode.specs.declared.instr.Instr.TheVariants.{Load}
@@ -13,11 +13,11 @@ use Rattle.run_model.specs.Marks.{Marks, before_use}
 use Rattle.run_model.specs.OwnLaws.{Accepted}
 use Rattle.side_model.specs.Hart.{Regs}
 use Rattle.side_model.specs.Sees.{shade_of}
-use Rattle.mark_laws.specs.Sizes.{TrueSizes}
 use Rattle.shadow_laws.proofs.ShadowNumbers.{Sized, stock_of}
+use Rattle.mark_laws.specs.Sizes.{TrueSizes}
 use Rattle.hint_laws.proofs.Within.{AreSeen, Doing, does, goes_to, Within}
 use Rattle.hint_laws.proofs.WithinSteps.{Leads, goes, turns, reaches, halts, within-leads}
-use Rattle.hint_laws.proofs.Followed.{known, program_in, is_storing, is_restart, Works, Behind, Strays, Rests, Followed, works, behind, strays, rests}
+use Rattle.hint_laws.proofs.Followed.{known, program_in, is_storing, is_restart, Works, Behind, Strays, Followed, works, behind, strays, rests}
 use Rattle.hint_laws.proofs.Views.{are-seen}
 use Rattle.hint_laws.proofs.Arriving.{returned, strayed}
 use Rattle.hint_laws.proofs.Reaching.{reached}

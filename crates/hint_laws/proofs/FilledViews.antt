@@ -1,110 +1,60 @@
 -- What an assumed call of the shadow leaves: the numbers of the filled reads, what the shadow sees, and which regions have copies.
-use Rattle.std.proofs.Common.{◌≡◌, ℕ, zero, suc, ◌+◌, ◌/◌, ◌<◌, ◌≤◌, Bool, true, false, not, ◌&&◌, ◌||◌, ◌==◌, List, [], ◌∷◌, ◌++◌, length, refl, ◌∙◌, ap, sym, subst, arith}
+use Rattle.std.proofs.Common.{◌≡◌, ℕ, zero, suc, ◌+◌, ◌/◌, ◌<◌, ◌≤◌, Bool, true, false, ◌||◌, ◌==◌, List, length, refl, ◌∙◌, ap, sym, subst, arith}
 use Rattle.std.specs.Prelude.{IsTrue}
 use Rattle.std.proofs.lemmas.Bool.Decides.{nat_tests}
-use Rattle.std.proofs.lemmas.List.Folds.{list_any-append}
+use Rattle.std.proofs.lemmas.Bool.{or_right, or_from}
 use Rattle.spec_base.specs.Listed.{is_listed}
-use Rattle.spec_base.specs.Layout.{range_end}
 use Rattle.spec_base.specs.declared.layout.Layout.{Layout}
 use Rattle.spec_base.specs.declared.spot.ReadSpot.{ReadSpot}
 use Rattle.rv_model.specs.Memory.{Memory, is_within, written, all_from}
-use Rattle.rv_model.specs.Rights.{is_data, in_text, in_range}
-use Rattle.rv_model.specs.Space.{program_byte, text_byte}
+use Rattle.rv_model.specs.Rights.{is_data}
+use Rattle.rv_model.specs.Space.{program_byte}
 use Rattle.program_model.specs.Calls.{CallPlan, Set, Look, Read, Write, Exit, bytes_read}
-use Rattle.code_model.specs.Regions.{entry_of, shadowed, byte_by_entry}
+use Rattle.code_model.specs.Regions.{entry_of, shadowed}
 use Rattle.run_model.specs.Run.{World, Run, rewritten_words}
 use Rattle.run_model.specs.ShadowMoves.{shadow_plan, fill, is_filled, hint_given}
 use Rattle.run_model.specs.OwnLaws.{Accepted}
+use Rattle.own_laws.proofs.Reached.{false_true}
 use Rattle.side_model.specs.Tables.{Tabs, HasTabs, TableOk, all_regions}
 use Rattle.rows_access.specs.Accesses.{seen}
-use Rattle.rows_access.proofs.AccessPlaces.{seen-shadowed}
 use Rattle.rows_log.specs.Fills.{bytes_set, IsFilled}
 use Rattle.rows_log.proofs.FilledReads.{fills-keep_tables}
 use Rattle.rows_log.proofs.FillViews.{written-none, written-alike}
 use Rattle.rows_log.proofs.PlannedReads.{read-planned, all_from-last, data-region}
-use Rattle.own_laws.proofs.Reached.{false_true}
 use Rattle.mark_laws.specs.Agreement.{is_read, assumed_memory, HasAll}
-use Rattle.mark_laws.specs.Settled.{Alike}
+use Rattle.mark_laws.proofs.Numbers.{is_listed-append}
 use Rattle.hint_laws.proofs.Followed.{view_in, program_in, FilledUpTo}
 use Rattle.hint_laws.proofs.WordFacts.{filled_behind, ReadDoes, OtherLeaves, PlanDoes}
+use Rattle.hint_laws.proofs.Views.{data-seen}
 
 -- ---- the numbers of the filled reads
 
--- a number behind others
-is_listed-append : (numbers : List ℕ) (k n : ℕ) → is_listed (numbers ++ k ∷ []) n ≡ (is_listed numbers n || (k == n))
-is_listed-append numbers k n = list_any-append (λ (m : ℕ). m == n) numbers (k ∷ []) ∙ last (is_listed numbers n) (k == n)
-  where
-    last : (b c : Bool) → (b || (c || false)) ≡ (b || c)
-    last true c = refl
-    last false true = refl
-    last false false = refl
-
--- the next number is listed where its read was filled; those up to s are listed as before, and none above it
-pub record NextNumbers (r next : Run) (s : ℕ) (filled : Bool) : Type 0 where
-  pub before : (n : ℕ) → n ≤ s → is_listed next.since.filled n ≡ is_listed r.since.filled n
+-- the next number is listed where its read was filled, and none above it
+pub record NextNumbers (next : Run) (s : ℕ) (filled : Bool) : Type 0 where
   pub at : is_listed next.since.filled (suc s) ≡ filled
   pub above : FilledUpTo next (suc s)
 
 -- so it is behind each assumed call
-pub next-numbers : (r next : Run) (s : ℕ) (filled : Bool) → r.since.shadow ≡ s → FilledUpTo r s → next.since.filled ≡ filled_behind filled r → NextNumbers r next s filled
+pub next-numbers : (r next : Run) (s : ℕ) (filled : Bool) → r.since.shadow ≡ s → FilledUpTo r s → next.since.filled ≡ filled_behind filled r → NextNumbers next s filled
 next-numbers r next s false count up e =
     record {
-      before = λ n h. ap (λ (numbers : List ℕ). is_listed numbers n) e;
       at = ap (λ (numbers : List ℕ). is_listed numbers (suc s)) e ∙ up (suc s) (omega arith);
       above = λ k h. ap (λ (numbers : List ℕ). is_listed numbers k) e ∙ up k (omega arith);
     }
 next-numbers r next s true count up e =
     record {
-      before = λ n h. listed n ∙ neither (is_listed r.since.filled n) (r.since.shadow + 1 == n) (grind (arith, nat_tests, count));
-      at = listed (suc s) ∙ one (is_listed r.since.filled (suc s)) (r.since.shadow + 1 == suc s) (grind (arith, nat_tests, count));
-      above = λ k h. listed k ∙ (neither (is_listed r.since.filled k) (r.since.shadow + 1 == k) (grind (arith, nat_tests, count)) ∙ up k (omega arith));
+      at = listed (suc s) ∙ or_right (is_listed r.since.filled (suc s)) (r.since.shadow + 1 == suc s) (grind (arith, nat_tests, count));
+      above = λ k h. listed k ∙ or_from (is_listed r.since.filled k) (r.since.shadow + 1 == k) (up k (omega arith)) (grind (arith, nat_tests, count));
     }
   where
     listed : (n : ℕ) → is_listed next.since.filled n ≡ (is_listed r.since.filled n || (r.since.shadow + 1 == n))
     listed n = ap (λ (numbers : List ℕ). is_listed numbers n) e ∙ is_listed-append r.since.filled (r.since.shadow + 1) n
 
-    neither : (b c : Bool) → c ≡ false → (b || c) ≡ b
-    neither true c h = refl
-    neither false c h = h
-
-    one : (b c : Bool) → c ≡ true → (b || c) ≡ true
-    one true c h = refl
-    one false c h = h
-
--- the sets up to s rest on numbers that are alike
-pub numbers-alike : (r next : Run) (s : ℕ) (filled : Bool) → next.since.origin ≡ r.since.origin → NextNumbers r next s filled → Alike s r next r.since.filled next.since.filled
-numbers-alike r next s filled e n = record { origin = e; listed = n.before }
-
 -- ---- what the shadow sees
-
--- data isn't text
-data-outside : (l : Layout) (y : ℕ) → is_data l y ≡ true → in_text l y ≡ false
-data-outside l y = by_tests (in_range l y) (in_text l y)
-  where
-    by_tests : (b c : Bool) → (b && not c) ≡ true → c ≡ false
-    by_tests true true e = false_true e
-    by_tests true false e = refl
-    by_tests false c e = false_true e
-
--- there the program range has the memory
-data-program : (l : Layout) (words : List ℕ) (m : Memory) (y : ℕ) → is_data l y ≡ true → program_byte l words m y ≡ m y
-data-program l words m y h = ap (λ (b : Bool). elim b [ true ↦ text_byte l words y | false ↦ m y ]) (data-outside l y h)
-
--- what is seen of a byte by two memories that have the same there
-shadowed-alike : (shared f g : Memory) (y : ℕ) → f y ≡ g y → shadowed shared f y ≡ shadowed shared g y
-unfolding shadowed
-shadowed-alike shared f g y e = by_entry (entry_of shared (y / 256))
-  where
-    by_entry : (entry : ℕ) → byte_by_entry entry shared f y ≡ byte_by_entry entry shared g y
-    by_entry zero = e
-    by_entry (suc slot) = refl
 
 -- what a run sees of its data is what its tables say
 view-seen : (w : World) (r : Run) (t : Tabs) → HasTabs w.image.layout r.shared t → (y : ℕ) → is_data w.image.layout y ≡ true → view_in r y ≡ seen t r.shared (program_in w r) y
-view-seen w r t has y h =
-    let below : y < range_end w.image.layout.version = grind (arith, nat_tests) in
-    shadowed-alike r.shared r.own.memory (program_in w r) y (sym (data-program w.image.layout (rewritten_words w) r.own.memory y h))
-    ∙ seen-shadowed w.image.layout t r.shared (program_in w r) has y below
+view-seen w r t has y h = data-seen w.image.layout (rewritten_words w) r.own.memory r.shared t has y h
 
 -- an address of a stretch
 within-parts : (a n y : ℕ) → is_within a n y ≡ true → (a ≤ y) × (y < a + n)

@@ -5,42 +5,39 @@ use Rattle.spec_base.specs.declared.layout.Layout.{Layout}
 use Rattle.spec_base.specs.declared.note.ShadowState.TheVariants.{Running, Parked}
 use Rattle.spec_base.specs.declared.park.Park.{Park}
 use Rattle.rv_model.specs.Memory.{Memory}
-use Rattle.program_model.specs.PlainRun.{State}
-use Rattle.code_model.specs.Regions.{entry_address, entry_of, slot_address, byte_by_entry, shadowed}
-use Rattle.own_laws.proofs.Reached.{false_true}
 use Rattle.rv_model.specs.Space.{program_byte}
+use Rattle.program_model.specs.PlainRun.{State}
+use Rattle.code_model.specs.Regions.{entry_of, slot_address, byte_by_entry, shadowed}
 use Rattle.run_model.specs.Run.{World, Run, Answer, rewritten_words}
 use Rattle.run_model.specs.ShadowMoves.{is_arrival, shadow_step}
 use Rattle.run_model.specs.Marks.{Marks}
 use Rattle.run_model.specs.HintLaws.{is_behind_call}
 use Rattle.run_model.specs.OwnLaws.{Accepted}
+use Rattle.own_laws.proofs.Reached.{false_true}
 use Rattle.side_model.specs.Hart.{Regs}
 use Rattle.side_model.specs.Sees.{shade_of}
 use Rattle.side_model.specs.Tables.{all_regions}
-use Rattle.rows_access.proofs.AccessPlaces.{loaded-same}
+use Rattle.shadow_laws.proofs.AnyCalls.{LeavesTables}
+use Rattle.shadow_laws.proofs.ShadowRuns.{resting-stays}
+use Rattle.shadow_laws.proofs.Sound.{parked_running}
+use Rattle.shadow_laws.proofs.SoundSteps.{entry-kept}
 use Rattle.mark_laws.specs.Agreement.{SeesAlike}
 use Rattle.mark_laws.specs.Settled.{settled_with}
 use Rattle.mark_laws.proofs.Numbers.{from_restart-origin, reads-origin}
 use Rattle.mark_laws.proofs.OneInstruction.{true_false}
-use Rattle.shadow_laws.proofs.AnyCalls.{LeavesTables}
-use Rattle.shadow_laws.proofs.ShadowRuns.{resting-stays}
-use Rattle.hint_laws.proofs.Within.{Doing, goes_to, Within}
+use Rattle.hint_laws.proofs.Within.{Doing, goes_to, Within, within-running}
 use Rattle.hint_laws.proofs.WithinSteps.{Leaves, all, tables, copies, clears, Inner, IsQuiet}
 use Rattle.hint_laws.proofs.Followed.{known, program_in, view_in, AreCopied, is_storing, is_restart, inner, Works, Behind, Strays, Rests, Followed, works, behind, strays, rests}
-use Rattle.hint_laws.proofs.WordFacts.{WordLeaves, HintsStay, Parks, ParkedAt, word-leaves, word-hints_stay, word-parks, parked_running}
+use Rattle.hint_laws.proofs.WordFacts.{WordLeaves, HintsStay, Parks, ParkedAt, word-leaves, word-hints_stay, word-parks}
 use Rattle.hint_laws.proofs.WordFacts as park_at
 use Rattle.hint_laws.proofs.ParkPlaces.{IsBehindPark, behind-park, park-place}
-use Rattle.hint_laws.proofs.Spots.{inner-arrival, within-whole, within-running, park-call, going-some, going-last}
+use Rattle.hint_laws.proofs.Spots.{inner-arrival, within-whole, park-call, going-some, going-last}
 use Rattle.hint_laws.proofs.Transport.{SameBut, copied-kept, filled-same, same-marks, same-use}
 use Rattle.hint_laws.proofs.Halts.{LeftAt, here, off, works-rests, behind-rests, strays-rests}
 
 -- ---- what the shadow has in place of the program's memory
 
--- an entry stays where the table does
-tables-entry : (old new : Memory) → LeavesTables old new → (region : ℕ) → entry_of new region ≡ entry_of old region
-tables-entry old new same region = loaded-same 4 new old (entry_address region) (entry_address region) (λ k less. same (entry_address region + k) (omega arith))
-
--- and a byte where the copies do
+-- what is seen of a byte stays where the copies do
 tables-byte : (old new : Memory) → LeavesTables old new → (program : Memory) (a entry : ℕ) → byte_by_entry entry new program a ≡ byte_by_entry entry old program a
 tables-byte old new same program a zero = refl
 tables-byte old new same program a (suc slot) = same (slot_address slot + a % 256) (omega arith)
@@ -50,14 +47,14 @@ view-kept : {l : Layout} {old new : Memory} {d : Doing} → Leaves l old new d �
 unfolding shadowed
 view-kept (all e) other quiet program a = ap (λ (m : Memory). shadowed m program a) e
 view-kept {old = old} {new = new} (tables same) other quiet program a =
-    ap (λ (entry : ℕ). byte_by_entry entry new program a) (tables-entry old new same (a / 256)) ∙ tables-byte old new same program a (entry_of old (a / 256))
+    ap (λ (entry : ℕ). byte_by_entry entry new program a) (entry-kept old new same (a / 256)) ∙ tables-byte old new same program a (entry_of old (a / 256))
 view-kept (copies kept) other quiet program a = true_false quiet
 view-kept clears other quiet program a = true_false other
 
 -- and each copy, but before RESTART's HCALL
 copy-kept : {l : Layout} {old new : Memory} {d : Doing} → Leaves l old new d → is_restart d ≡ false → (region : ℕ) → region < all_regions l → 0 < entry_of old region → 0 < entry_of new region
 copy-kept (all e) other region few some = subst (λ (m : Memory). 0 < entry_of m region) (sym e) some
-copy-kept {old = old} {new = new} (tables same) other region few some = subst (λ (entry : ℕ). 0 < entry) (sym (tables-entry old new same region)) some
+copy-kept {old = old} {new = new} (tables same) other region few some = subst (λ (entry : ℕ). 0 < entry) (sym (entry-kept old new same region)) some
 copy-kept (copies kept) other region few some = subst (λ (entry : ℕ). 0 < entry) (sym (kept region few some)) some
 copy-kept clears other region few some = true_false other
 
@@ -187,6 +184,7 @@ module _ (w : World) (a : Accepted w) (x : Answer) (r : Run) where
           off (ap (is_arrival l) pc ∙ b.no_arrival) (ap (is_behind_call w) pc ∙ b.no_call) (park-call w r.shadow.pc (park-place w r.shadow.pc why f))
 
   module _ (cause : Park) (parks : next.shadow.state ≡ Parked cause) where
+    -- a parked shadow doesn't run
     still : next.shadow.state ≢ Running
     still f = parked_running (sym parks ∙ f)
 

@@ -1,23 +1,21 @@
 -- A shadow that follows the run is at rest where it ceases to run: at the word at hand, or behind an HPARK.
-use Rattle.std.proofs.Common.{◌≡◌, ℕ, zero, suc, ◌+◌, ◌<◌, ◌⊎◌, inl, inr, Bool, true, false, Option, refl, ◌∙◌, ap, sym, subst, arith}
-use Rattle.std.specs.Prelude.{◌≢◌, if◌then◌else◌}
+use Rattle.std.proofs.Common.{◌≡◌, ℕ, suc, ◌⊎◌, inl, inr, true, false, Option, ◌∙◌, ap, sym}
+use Rattle.std.specs.Prelude.{◌≢◌}
 use Rattle.spec_base.specs.declared.note.ShadowState.TheVariants.{Running}
 use Rattle.rv_model.specs.Memory.{Memory}
-use Rattle.rv_model.specs.Registers.{Registers, reg}
 use Rattle.program_model.specs.PlainRun.{State}
-use Rattle.own_laws.proofs.Reached.{false_true}
 use Rattle.run_model.specs.Run.{World, Run}
 use Rattle.run_model.specs.ShadowMoves.{is_arrival}
-use Rattle.run_model.specs.Restarts.{from_restart, reads, before_horizon}
-use Rattle.run_model.specs.Marks.{Marks, marks, before_use}
+use Rattle.run_model.specs.Restarts.{reads, before_horizon}
+use Rattle.run_model.specs.Marks.{Marks, before_use}
 use Rattle.run_model.specs.HintLaws.{is_behind_call, hinted_up_to}
 use Rattle.run_model.specs.OwnLaws.{Accepted}
+use Rattle.own_laws.proofs.Reached.{false_true}
 use Rattle.side_model.specs.Hart.{Regs}
-use Rattle.mark_laws.specs.Agreement.{Agrees, SeesAlike}
 use Rattle.hint_laws.proofs.Within.{Doing}
-use Rattle.hint_laws.proofs.Followed.{view_in, AreCopied, Works, Behind, Strays, Stands, Rests, Followed, works, behind, strays, rests}
-use Rattle.hint_laws.proofs.Spots.{IsFirst, inner-arrival, within-whole, works-call, works-first}
-use Rattle.hint_laws.proofs.Transport.{SameBut, same-hints, same-marked, same-state, same-view, same-copied, same-use, same-horizon, rests-same}
+use Rattle.hint_laws.proofs.Followed.{Works, Behind, Strays, Stands, Rests, Followed, works, behind, strays, rests}
+use Rattle.hint_laws.proofs.Spots.{inner-arrival, within-whole, works-call, works-stands}
+use Rattle.hint_laws.proofs.Transport.{SameBut, same-hints, same-use, same-horizon, rests-same, hinted-off, hinted-on, no-reads, stands-same}
 
 -- ---- where it is left
 
@@ -26,62 +24,21 @@ pub data LeftAt (w : World) (r y : Run) : Type 0 where
   here : y.shadow.pc ≡ r.shadow.pc → LeftAt w r y
   off : is_arrival w.image.layout y.shadow.pc ≡ false → is_behind_call w y.shadow.pc ≡ false → is_behind_call w r.shadow.pc ≡ false → LeftAt w r y
 
--- a register but x0 reads as it is
-reg-some : (rs : Registers) (i : ℕ) → 0 < i → reg rs i ≡ rs i
-reg-some rs zero h = absurd (omega (arith, h))
-reg-some rs (suc i) h = refl
-
--- the first instruction gives no hint
-first-reads : (w : World) (r : Run) (s : ℕ) → s ≡ 0 → reads w r (suc s) ≡ reads w r s
-unfolding reads
-first-reads w r zero e = refl
-first-reads w r (suc s) e = absurd (omega (arith, e))
-
 module _ (w : World) (a : Accepted w) (r y : Run) (e : SameBut r y) (left : LeftAt w r y) (still : y.shadow.state ≢ Running) where
-  -- ---- up to where the hints reach
-
-  hinted-off : is_behind_call w y.shadow.pc ≡ false → hinted_up_to w y ≡ y.since.shadow
-  hinted-off h = ap (λ (b : Bool). if b then y.since.shadow + 1 else y.since.shadow) h
-
-  hinted-on : is_behind_call w y.shadow.pc ≡ true → hinted_up_to w y ≡ y.since.shadow + 1
-  hinted-on h = ap (λ (b : Bool). if b then y.since.shadow + 1 else y.since.shadow) h
-
-  -- ---- each way
-
   -- a shadow whose hints are the reads rests
   truly : y.since.hints ≡ reads w y (hinted_up_to w y) → (is_arrival w.image.layout y.shadow.pc ≡ true → (q : State) × Stands w y q) → Rests w y
   truly h stands = record { still = still; hints = λ before. h; horizon = λ before. h; stands = stands }
 
   -- one that works on an instruction
   pub works-rests : {s : ℕ} {m : Marks} {q : State} {program : Memory} {d : Doing} {n : ℕ} → Works w r s m q program d n → Rests w y
-  works-rests {s} {m} {q} {program} {d} {n} x = truly (same-hints w r y e s (hinted_up_to w y) (hinted-off (no_call left) ∙ e.count ∙ x.count) x.hints) (λ h. by_left left h)
+  works-rests {s} {m} {q} {program} {d} {n} x = truly (same-hints w r y e s (hinted_up_to w y) (hinted-off w y (no_call left) ∙ e.count ∙ x.count) x.hints) (λ h. by_left left h)
     where
       no_call : LeftAt w r y → is_behind_call w y.shadow.pc ≡ false
       no_call (here pc) = ap (is_behind_call w) pc ∙ works-call w a x
       no_call (off arrives call before) = call
 
-      marked : marks w y y.since.shadow ≡ m
-      marked = same-marked w r y e ∙ ap (marks w r) x.count ∙ x.marked
-
-      begun : y.shadow.pc ≡ r.shadow.pc → is_arrival w.image.layout r.shadow.pc ≡ true → IsFirst w r q d → Stands w y q
-      begun pc h f =
-          record {
-            state = same-state w r y e ∙ ap (from_restart w r) x.count ∙ x.state;
-            inside = x.inside;
-            place = pc ∙ f.place;
-            agrees = subst (λ (m : Marks). Agrees m y.shadow.registers q) (sym marked)
-                (record {
-                  registers = λ i some few unmarked.
-                      ap (λ (rs : Registers). rs i) e.registers ∙ sym (reg-some r.shadow.registers i some) ∙ f.registers.at i ∙ x.agrees.registers i some few unmarked;
-                });
-            files = e.files ∙ x.files;
-            sees = subst (λ (m : Marks). SeesAlike w.image.layout m (view_in y) q) (sym marked)
-                (subst (λ (v : Memory). SeesAlike w.image.layout m v q) (sym (same-view w r y e)) (x.sees f.other (inr h)));
-            copied = subst (AreCopied w y) (sym (e.count ∙ x.count)) (same-copied w r y e s x.copied);
-          }
-
       by_left : LeftAt w r y → is_arrival w.image.layout y.shadow.pc ≡ true → (q : State) × Stands w y q
-      by_left (here pc) h = let was : is_arrival w.image.layout r.shadow.pc ≡ true = ap (is_arrival w.image.layout) (sym pc) ∙ h in (q, begun pc was (works-first w a x was))
+      by_left (here pc) h = let was : is_arrival w.image.layout r.shadow.pc ≡ true = ap (is_arrival w.image.layout) (sym pc) ∙ h in (q, stands-same w r y e pc q (works-stands w a x was))
       by_left (off arrives call before) h = false_true (sym arrives ∙ h)
 
   -- one behind a call
@@ -96,10 +53,10 @@ module _ (w : World) (a : Accepted w) (r y : Run) (e : SameBut r y) (left : Left
       count = e.count ∙ x.count
 
       by_turn : LeftAt w r y → (is_behind_call w r.shadow.pc ≡ true) ⊎ ((is_behind_call w r.shadow.pc ≡ false) × (s ≡ 0)) → y.since.hints ≡ reads w y (hinted_up_to w y)
-      by_turn (here pc) (inl on) = same-hints w r y e (suc s) (hinted_up_to w y) (hinted-on (ap (is_behind_call w) pc ∙ on) ∙ omega (arith, count)) x.hints
-      by_turn (here pc) (inr (call, none)) = same-hints w r y e s (hinted_up_to w y) (hinted-off (ap (is_behind_call w) pc ∙ call) ∙ count) (x.hints ∙ first-reads w r s none)
+      by_turn (here pc) (inl on) = same-hints w r y e (suc s) (hinted_up_to w y) (hinted-on w y (ap (is_behind_call w) pc ∙ on) ∙ ap suc count) x.hints
+      by_turn (here pc) (inr (call, none)) = same-hints w r y e s (hinted_up_to w y) (hinted-off w y (ap (is_behind_call w) pc ∙ call) ∙ count) (x.hints ∙ sym (no-reads w r r s none))
       by_turn (off arrives call before) (inl on) = false_true (sym before ∙ on)
-      by_turn (off arrives call before) (inr (same, none)) = same-hints w r y e s (hinted_up_to w y) (hinted-off call ∙ count) (x.hints ∙ first-reads w r s none)
+      by_turn (off arrives call before) (inr (same, none)) = same-hints w r y e s (hinted_up_to w y) (hinted-off w y call ∙ count) (x.hints ∙ sym (no-reads w r r s none))
 
   -- one behind a call that is a use
   pub strays-rests : {s : ℕ} {bytes : ℕ → Option ℕ} {program : Memory} {to : ℕ} {g : Regs} {n : ℕ} → Strays w r s bytes program to g n → Rests w y
@@ -108,7 +65,7 @@ module _ (w : World) (a : Accepted w) (r y : Run) (e : SameBut r y) (left : Left
       by_left : LeftAt w r y → Rests w y
       by_left (off arrives call before) = false_true (sym before ∙ x.behind)
       by_left (here pc) =
-          let up_to : hinted_up_to w y ≡ suc s = hinted-on (ap (is_behind_call w) pc ∙ x.behind) ∙ omega (arith, e.count, x.count) in
+          let up_to : hinted_up_to w y ≡ suc s = hinted-on w y (ap (is_behind_call w) pc ∙ x.behind) ∙ ap suc (e.count ∙ x.count) in
           record {
             still = still;
             hints = λ h. false_true (sym (ap (before_use w y) up_to ∙ same-use w r y e.origin e.filled (suc s) ∙ x.used) ∙ h);

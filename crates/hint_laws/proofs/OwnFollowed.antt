@@ -1,13 +1,12 @@
 -- A run whose shadow follows it is so still where only covered bytes of the program's memory have changed, and of what is shared the link.
-use Rattle.std.proofs.Common.{◌≡◌, ℕ, zero, suc, ◌+◌, ◌/◌, ◌%◌, ◌<◌, ◌≤◌, ◌⊎◌, inl, inr, Bool, true, false, not, ◌&&◌, if◌then◌else◌, List, Option, Some, refl, ◌∙◌, ap, ap₂, sym, subst, arith}
+use Rattle.std.proofs.Common.{◌≡◌, ℕ, zero, suc, ◌+◌, ◌/◌, ◌%◌, ◌<◌, ◌≤◌, ◌⊎◌, inl, inr, Bool, true, false, not, ◌&&◌, Option, Some, refl, ◌∙◌, ap, ap₂, sym, subst, arith}
 use Rattle.std.specs.Prelude.{IsTrue, ◌≢◌}
 use Rattle.std.proofs.Math.Path.{fun_ext}
-use Rattle.spec_base.specs.Listed.{is_listed}
+use Rattle.std.proofs.lemmas.Bool.{and_parts}
 use Rattle.spec_base.specs.declared.layout.Layout.{Layout}
 use Rattle.spec_base.specs.declared.note.ShadowState.TheVariants.{Running}
 use Rattle.rv_model.specs.Memory.{Memory}
-use Rattle.rv_model.specs.Rights.{is_data, in_text, in_range}
-use Rattle.rv_model.specs.Space.{program_byte, text_byte}
+use Rattle.rv_model.specs.Rights.{is_data}
 use Rattle.program_model.specs.PlainRun.{State}
 use Rattle.code_model.specs.Regions.{entry_of, slot_address, byte_by_entry, shadowed}
 use Rattle.run_model.specs.Run.{World, Run, ShadowHart, rewritten_words}
@@ -15,18 +14,21 @@ use Rattle.run_model.specs.ShadowMoves.{is_arrival}
 use Rattle.run_model.specs.Restarts.{from_restart, reads, before_horizon}
 use Rattle.run_model.specs.Marks.{Marks, marks, marks_with, before_use}
 use Rattle.run_model.specs.HintLaws.{is_behind_call, hinted_up_to}
-use Rattle.side_model.specs.Hart.{Regs}
-use Rattle.side_model.specs.Sees.{shade_of, HasRegs}
-use Rattle.side_model.specs.Tables.{all_regions}
-use Rattle.shadow_laws.proofs.AnyCalls.{LeavesTables}
 use Rattle.own_laws.proofs.Reached.{none_some, false_true}
+use Rattle.side_model.specs.Hart.{Regs}
+use Rattle.side_model.specs.Sees.{shade_of}
+use Rattle.shadow_laws.proofs.AnyCalls.{LeavesTables}
+use Rattle.shadow_laws.proofs.SoundSteps.{LeavesBehindHead, entry-kept}
 use Rattle.mark_laws.specs.Agreement.{Agrees, SeesAlike}
-use Rattle.mark_laws.specs.Settled.{Alike, settled_with, IsCovered}
-use Rattle.mark_laws.proofs.Numbers.{alike-same, from_restart-origin, reads-origin, marks_with-alike, settled_with-alike, before_use_with-so_far, before_horizon-so_far}
-use Rattle.hint_laws.proofs.Within.{Doing, goes_to, Within}
+use Rattle.mark_laws.specs.Settled.{settled_with, IsCovered}
+use Rattle.mark_laws.proofs.Numbers.{from_restart-origin, reads-origin}
+use Rattle.mark_laws.proofs.Horizons.{not_true}
+use Rattle.hint_laws.proofs.Within.{Doing, goes_to, Within, within-running}
 use Rattle.hint_laws.proofs.WithinSteps.{Inner}
-use Rattle.hint_laws.proofs.WithinStays.{LeavesBehindHead, entry-kept, LeavesKnown, within-stays, within-runs}
-use Rattle.hint_laws.proofs.Followed.{known_if, known, program_in, view_in, AreCopied, FilledUpTo, is_storing, regs_of, Spot, first, inner, Works, Behind, Strays, Stands, Rests, Followed, works, behind, strays, rests}
+use Rattle.hint_laws.proofs.WithinStays.{LeavesKnown, within-stays}
+use Rattle.hint_laws.proofs.Followed.{known_if, known, program_in, view_in, AreCopied, is_storing, Works, Behind, Strays, Stands, Rests, Followed, works, behind, strays, rests}
+use Rattle.hint_laws.proofs.Transport.{same-marks, same-use, same-horizon, copied-kept, filled-same, spot-same, hinted-by}
+use Rattle.hint_laws.proofs.Views.{data-program}
 
 -- what a run keeps of another: all that the shadow has, and what is counted since the restart; each byte of the program's memory that isn't covered from the shadow's instruction on; and table, list and copies, and while the shadow runs all behind the log's head
 pub record Carries (w : World) (r y : Run) : Type 0 where
@@ -45,42 +47,9 @@ known-data : (b : Bool) (v n : ℕ) → known_if b v ≡ Some n → b ≡ true
 known-data true v n e = refl
 known-data false v n e = none_some e
 
--- of two tests that hold, each holds
-both : (b c : Bool) → (b && not c) ≡ true → (b ≡ true) × (c ≡ false)
-both true false e = (refl, refl)
-both true true e = false_true e
-both false c e = false_true e
-
--- data is no text
-no-text : (l : Layout) (b : ℕ) → is_data l b ≡ true → in_text l b ≡ false
-no-text l b h = (both (in_range l b) (in_text l b) h).1
-
--- what the program range has of data
-data-byte : (l : Layout) (words : List ℕ) (m : Memory) (b : ℕ) → is_data l b ≡ true → program_byte l words m b ≡ m b
-data-byte l words m b h = ap (λ (t : Bool). elim t [ true ↦ text_byte l words b | false ↦ m b ]) (no-text l b h)
-
 module _ (w : World) (r y : Run) (c : Carries w r y) where
   abbrev l : Layout
   l = w.image.layout
-
-  -- the sets are the same
-  alike : (i : ℕ) → Alike i r y r.since.filled y.since.filled
-  alike i = alike-same i r y c.origin c.filled
-
-  same-marks : (i : ℕ) → marks w y i ≡ marks w r i
-  same-marks i = marks_with-alike w r y r.since.filled y.since.filled i (alike i)
-
-  same-use : (i : ℕ) → before_use w y i ≡ before_use w r i
-  same-use i = before_use_with-so_far w r y r.since.filled y.since.filled i (alike i)
-
-  same-horizon : (i : ℕ) → before_horizon w y i ≡ before_horizon w r i
-  same-horizon i = before_horizon-so_far w r y i (alike i)
-
-  same-state : (i : ℕ) → from_restart w y i ≡ from_restart w r i
-  same-state = from_restart-origin w r y c.origin
-
-  same-reads : (i : ℕ) → reads w y i ≡ reads w r i
-  same-reads = reads-origin w r y c.origin
 
   -- an entry stays
   same-entry : (region : ℕ) → entry_of y.shared region ≡ entry_of r.shared region
@@ -88,13 +57,7 @@ module _ (w : World) (r y : Run) (c : Carries w r y) where
 
   -- copies stay
   copied : (i : ℕ) → AreCopied w r i → AreCopied w y i
-  copied i k x h =
-      let f : (x / 256 < all_regions l) × (0 < entry_of r.shared (x / 256)) = k x (sym (settled_with-alike w r y r.since.filled y.since.filled i (alike i) x) ∙ h) in
-      (f.0, subst (λ n. 0 < n) (sym (same-entry (x / 256))) f.1)
-
-  -- so do the numbers of the reads that are filled
-  filled : (i : ℕ) → FilledUpTo r i → FilledUpTo y i
-  filled i f k h = ap (λ (numbers : List ℕ). is_listed numbers k) c.filled ∙ f k h
+  copied i k = copied-kept w r y c.origin c.filled i (λ region few some. subst (λ n. 0 < n) (sym (same-entry region)) some) k
 
   -- a byte that isn't marked stays in the program's memory, unless its region has a copy
   byte : (i : ℕ) → r.since.shadow ≤ i → AreCopied w r i → (b : ℕ) → (marks w r i).bytes b ≡ false → entry_of r.shared (b / 256) ≡ 0 → y.own.memory b ≡ r.own.memory b
@@ -128,14 +91,14 @@ module _ (w : World) (r y : Run) (c : Carries w r y) where
       → Within w bytes program d (shade_of r) n → Within w bytes (program_in w y) d (shade_of y) n
   at-row bytes program {d} {n} same within =
       let is : shade_of y ≡ record (shade_of r) { shared = y.shared } = ap₂ (λ (hart : ShadowHart) (page : Memory). record { hart = hart; page = page; shared = y.shared }) c.shadow c.page in
-      subst (λ h. Within w bytes (program_in w y) d h n) (sym is) (within-stays w bytes program (program_in w y) (shade_of r) y.shared (c.link (within-runs w bytes program within)) same within)
+      subst (λ h. Within w bytes (program_in w y) d h n) (sym is) (within-stays w bytes program (program_in w y) (shade_of r) y.shared (c.link (within-running within)) same within)
 
   -- known bytes of a state are left in the program's memory
   leaves-known : (i : ℕ) (m : Marks) (q : State) → marks w r i ≡ m → r.since.shadow ≤ i → AreCopied w r i → LeavesKnown l r.shared (known l m q) (program_in w r) (program_in w y)
   leaves-known i m q e h k b v low high none known-is =
-      let f : (is_data l b ≡ true) × (m.bytes b ≡ false) = both (is_data l b) (m.bytes b) (known-data (is_data l b && not (m.bytes b)) (q.memory b) v known-is) in
-      data-byte l (rewritten_words w) y.own.memory b f.0
-      ∙ (byte i h k b (ap (λ (m : Marks). m.bytes b) e ∙ f.1) none ∙ sym (data-byte l (rewritten_words w) r.own.memory b f.0))
+      let f : (is_data l b ≡ true) × (not (m.bytes b) ≡ true) = and_parts (is_data l b) (not (m.bytes b)) (known-data (is_data l b && not (m.bytes b)) (q.memory b) v known-is) in
+      data-program l (rewritten_words w) y.own.memory b f.0
+      ∙ (byte i h k b (ap (λ (m : Marks). m.bytes b) e ∙ not_true (m.bytes b) f.1) none ∙ sym (data-program l (rewritten_words w) r.own.memory b f.0))
 
   -- at the restart nothing is covered
   uncovered : r.since.shadow ≡ 0 → (b : ℕ) → y.own.memory b ≡ r.own.memory b
@@ -147,17 +110,6 @@ module _ (w : World) (r y : Run) (c : Carries w r y) where
       by_case (inr (inl e)) = false_true e
       by_case (inr (inr e)) = false_true e
 
-  -- the spot stays
-  spot : (q : State) (d : Doing) → Spot w r q d → Spot w y q d
-  spot q d s = by_spot s
-    where
-      pc : y.shadow.pc ≡ r.shadow.pc
-      pc = ap (λ (h : ShadowHart). h.pc) c.shadow
-
-      by_spot : Spot w r q d → Spot w y q d
-      by_spot (first e g f) = first (pc ∙ e) (subst (λ (h : ShadowHart). HasRegs h.registers (regs_of d)) (sym c.shadow) g) f
-      by_spot (inner i) = inner (subst (λ pc. Inner l pc d) (sym pc) i)
-
   -- ---- in each way
 
   -- on an instruction
@@ -166,22 +118,22 @@ module _ (w : World) (r y : Run) (c : Carries w r y) where
       let h : r.since.shadow ≤ s = omega (arith, k.count) in
       record {
         count = c.count ∙ k.count;
-        marked = same-marks s ∙ k.marked;
+        marked = same-marks w r y c.origin c.filled s ∙ k.marked;
         program_is = refl;
-        state = same-state s ∙ k.state;
+        state = from_restart-origin w r y c.origin s ∙ k.state;
         goes_on = k.goes_on;
         inside = k.inside;
         doing = k.doing;
         within = at-row (known l m q) program (λ e. subst (λ p. LeavesKnown l r.shared (known l m q) p (program_in w y)) k.program_is (leaves-known s m q k.marked h k.copied)) k.within;
-        spot = spot q d k.spot;
+        spot = spot-same (ap (λ (h : ShadowHart). h.pc) c.shadow) (ap (λ (h : ShadowHart). h.registers) c.shadow) k.spot;
         agrees = k.agrees;
         files = ap (λ (h : ShadowHart). h.files) c.shadow ∙ k.files;
         sees = λ e f. sees-with s m k.marked h k.copied q (k.sees e (earlier f));
         later = k.later;
         anew = λ e. by_anew (k.anew e);
         copied = copied s k.copied;
-        filled = filled s k.filled;
-        hints = c.hints ∙ k.hints ∙ sym (same-reads s);
+        filled = filled-same r y c.filled s k.filled;
+        hints = c.hints ∙ k.hints ∙ sym (reads-origin w r y c.origin s);
       }
     where
       earlier : (is_storing d ≡ false) ⊎ (is_arrival l y.shadow.pc ≡ true) → (is_storing d ≡ false) ⊎ (is_arrival l r.shadow.pc ≡ true)
@@ -197,9 +149,9 @@ module _ (w : World) (r y : Run) (c : Carries w r y) where
       let h : r.since.shadow ≤ suc s = omega (arith, k.count) in
       record {
         count = c.count ∙ k.count;
-        marked = same-marks (suc s) ∙ k.marked;
+        marked = same-marks w r y c.origin c.filled (suc s) ∙ k.marked;
         program_is = refl;
-        state = same-state (suc s) ∙ k.state;
+        state = from_restart-origin w r y c.origin (suc s) ∙ k.state;
         goes_on = k.goes_on;
         target = k.target;
         within = at-row (known l m q) program (λ e. false_true e) k.within;
@@ -209,9 +161,9 @@ module _ (w : World) (r y : Run) (c : Carries w r y) where
         files = ap (λ (h : ShadowHart). h.files) c.shadow ∙ k.files;
         sees = sees-with (suc s) m k.marked h k.copied q k.sees;
         copied = copied (suc s) k.copied;
-        filled = filled (suc s) k.filled;
-        hints = c.hints ∙ k.hints ∙ sym (same-reads (suc s));
-        unused = subst (λ b. IsTrue b) (sym (same-use (suc s))) k.unused;
+        filled = filled-same r y c.filled (suc s) k.filled;
+        hints = c.hints ∙ k.hints ∙ sym (reads-origin w r y c.origin (suc s));
+        unused = subst (λ b. IsTrue b) (sym (same-use w r y c.origin c.filled (suc s))) k.unused;
       }
 
   -- behind a call that is a use
@@ -219,19 +171,19 @@ module _ (w : World) (r y : Run) (c : Carries w r y) where
   on-strays s bytes program to g n k =
       record {
         count = c.count ∙ k.count;
-        used = same-use (suc s) ∙ k.used;
+        used = same-use w r y c.origin c.filled (suc s) ∙ k.used;
         program_is = refl;
         within = at-row bytes program (λ e. false_true e) k.within;
         place = subst (λ (h : ShadowHart). Inner l h.pc (goes_to to g)) (sym c.shadow) k.place;
         behind = ap (λ (h : ShadowHart). is_behind_call w h.pc) c.shadow ∙ k.behind;
-        hints = λ before. c.hints ∙ k.hints (subst (λ b. IsTrue b) (same-horizon s) before) ∙ sym (same-reads (suc s));
+        hints = λ before. c.hints ∙ k.hints (subst (λ b. IsTrue b) (same-horizon w r y c.origin c.filled s) before) ∙ sym (reads-origin w r y c.origin (suc s));
       }
 
   -- at word 1 of a block
   on-stands : (q : State) → Stands w r q → Stands w y q
   on-stands q k =
       record {
-        state = ap (from_restart w y) c.count ∙ same-state r.since.shadow ∙ k.state;
+        state = ap (from_restart w y) c.count ∙ from_restart-origin w r y c.origin r.since.shadow ∙ k.state;
         inside = k.inside;
         place = ap (λ (h : ShadowHart). h.pc) c.shadow ∙ k.place;
         agrees = subst (λ m. Agrees m y.shadow.registers q) marked (subst (λ (h : ShadowHart). Agrees (marks w r r.since.shadow) h.registers q) (sym c.shadow) k.agrees);
@@ -241,23 +193,23 @@ module _ (w : World) (r y : Run) (c : Carries w r y) where
       }
     where
       marked : marks w r r.since.shadow ≡ marks w y y.since.shadow
-      marked = sym (ap (marks w y) c.count ∙ same-marks r.since.shadow)
+      marked = sym (ap (marks w y) c.count ∙ same-marks w r y c.origin c.filled r.since.shadow)
 
   -- at rest
   on-rests : Rests w r → Rests w y
   on-rests k =
       record {
         still = subst (λ (h : ShadowHart). h.state ≢ Running) (sym c.shadow) k.still;
-        hints = λ before. hints-reach (k.hints (subst (λ b. IsTrue b) (ap (before_use w y) reach ∙ same-use (hinted_up_to w r)) before));
-        horizon = λ before. hints-reach (k.horizon (subst (λ b. IsTrue b) (ap (before_horizon w y) c.count ∙ same-horizon r.since.shadow) before));
+        hints = λ before. hints-reach (k.hints (subst (λ b. IsTrue b) (ap (before_use w y) reach ∙ same-use w r y c.origin c.filled (hinted_up_to w r)) before));
+        horizon = λ before. hints-reach (k.horizon (subst (λ b. IsTrue b) (ap (before_horizon w y) c.count ∙ same-horizon w r y c.origin c.filled r.since.shadow) before));
         stands = λ e. let q : (q : State) × Stands w r q = k.stands (subst (λ (h : ShadowHart). is_arrival l h.pc ≡ true) c.shadow e) in (q.0, on-stands q.0 q.1);
       }
     where
       reach : hinted_up_to w y ≡ hinted_up_to w r
-      reach = ap₂ (λ (h : ShadowHart) (n : ℕ). if is_behind_call w h.pc then n + 1 else n) c.shadow c.count
+      reach = hinted-by w r y (ap (λ (h : ShadowHart). h.pc) c.shadow) c.count
 
       hints-reach : r.since.hints ≡ reads w r (hinted_up_to w r) → y.since.hints ≡ reads w y (hinted_up_to w y)
-      hints-reach e = c.hints ∙ e ∙ sym (ap (reads w y) reach ∙ same-reads (hinted_up_to w r))
+      hints-reach e = c.hints ∙ e ∙ sym (ap (reads w y) reach ∙ reads-origin w r y c.origin (hinted_up_to w r))
 
   -- so the shadow follows still
   pub covered : Followed w r → Followed w y

@@ -23,20 +23,23 @@ use Rattle.own_laws.specs.StubLaws.{LeavesLink, left, takes_head, is_stopped}
 use Rattle.own_laws.proofs.HeldRuns.{stub_stops_first}
 use Rattle.own_laws.proofs.OwnLaws.{own_follows}
 use Rattle.own_laws.proofs.Reached.{none_some}
-use Rattle.rows_access.proofs.Copies.{patch-outside}
 use Rattle.side_model.specs.Sees.{Shade, shade_of}
+use Rattle.rows_access.proofs.Copies.{patch-outside}
 use Rattle.shadow_laws.proofs.AnyCalls.{LeavesTables}
 use Rattle.shadow_laws.proofs.OwnShades.{Watched, watched_of, OwnShade, same, links, halts, begins, own-shade, fetch-shade}
 use Rattle.shadow_laws.proofs.ShadowRuns.{run-snoc}
+use Rattle.shadow_laws.proofs.Sound.{stopped_running}
+use Rattle.shadow_laws.proofs.SoundSteps.{LeavesBehindHead}
 use Rattle.mark_laws.specs.Settled.{IsCovered}
 use Rattle.mark_laws.proofs.Horizons.{and_left, and_right}
-use Rattle.mark_laws.proofs.Numbers.{alike-same, before_use_with-so_far}
 use Rattle.mark_laws.proofs.OwnChanges.{own_changes_are_covered}
-use Rattle.hint_laws.proofs.WithinStays.{LeavesBehindHead}
 use Rattle.hint_laws.proofs.Followed.{Followed}
 use Rattle.hint_laws.proofs.OwnFollowed.{Carries, covered}
 use Rattle.hint_laws.proofs.OwnSince.{OwnSince, rests, counts, anew, own-since}
 use Rattle.hint_laws.proofs.Restarting.{begins-anew}
+use Rattle.hint_laws.proofs.Transport.{same-use}
+use Rattle.hint_laws.proofs.Halts.{stopped}
+use Rattle.hint_laws.proofs.Followed as followed
 
 -- the shadow follows its run, while it is to: there was a restart, the own hart hasn't been past the shadow since, each put was whole, and no use has come by the shadow's last instruction
 abbrev pub IsFollowed : World → Run → Type 0
@@ -59,23 +62,24 @@ behind-count : (n own shadow : ℕ) → 0 < n → IsTrue (stays_behind n own sha
 behind-count n own shadow some h = grind (arith, nat_tests)
 
 -- the own hart's memory, the counts since the restart, and the restarts
-record Counted : Type 0 where
-  memory : Memory
-  since : Since
-  restarts : ℕ
+pub record Counted : Type 0 where
+  pub memory : Memory
+  pub since : Since
+  pub restarts : ℕ
 
-abbrev counted_of : Run → Counted
+-- those of a run
+abbrev pub counted_of : Run → Counted
 counted_of r = record { memory = r.own.memory; since = r.since; restarts = r.restarts }
 
 module _ (w : World) (r y : Run) where
   -- a use that hasn't come had not come before
   unused-before : SameSince r y → IsTrue (before_use w y y.since.shadow) → IsTrue (before_use w r r.since.shadow)
   unused-before s unused =
-      subst (λ b. IsTrue b) (before_use_with-so_far w r y r.since.filled y.since.filled r.since.shadow (alike-same r.since.shadow r y s.origin s.filled))
+      subst (λ b. IsTrue b) (same-use w r y s.origin s.filled r.since.shadow)
       (subst (λ n. IsTrue (before_use w y n)) s.count unused)
 
   -- a run with the same counts and the same shadow is followed as well
-  counted-followed : counted_of y ≡ counted_of r → shade_of y ≡ shade_of r → IsFollowed w r → IsFollowed w y
+  pub counted-followed : counted_of y ≡ counted_of r → shade_of y ≡ shade_of r → IsFollowed w r → IsFollowed w y
   counted-followed e shade k is unused =
       covered w r y
       (record {
@@ -105,12 +109,6 @@ module _ (w : World) (r y : Run) where
       }
 
 -- ---- own moves
-
--- a run whose shadow is stopped, and which is the same else
-abbrev pub StoppingFollows : World → Type 0
-StoppingFollows w =
-    (r y : Run) → y.since.origin ≡ r.since.origin → y.since.filled ≡ r.since.filled → y.since.shadow ≡ r.since.shadow → y.since.hints ≡ r.since.hints
-    → shade_of y ≡ record (shade_of r) { hart = record r.shadow { state = Stopped } } → y.own.memory ≡ r.own.memory → Followed w r → Followed w y
 
 module _ (w : World) (a : Accepted w) (ms : Moves) (x : Answer) where
   abbrev r : Run
@@ -149,12 +147,9 @@ module _ (w : World) (a : Accepted w) (ms : Moves) (x : Answer) where
   leaves-link : LeavesLink r next → r.shadow.state ≡ Running → LeavesBehindHead r.shared next.shared
   leaves-link (left e) running b h = ap (λ (m : Memory). m b) e
   leaves-link (takes_head head e) running b h = ap (λ (m : Memory). m b) e ∙ patch-outside r.shared link_start 8 (byte_of head) b (inr h)
-  leaves-link (is_stopped e) running b h = absurd (no (sym e ∙ running))
-    where
-      no : Stopped ≡ Running → ⊥
-      no e = cc
+  leaves-link (is_stopped e) running b h = stopped_running (sym e ∙ running)
 
-  module _ (stopped : StoppingFollows w) (k : IsFollowed w r) (is : IsFollowing next) (unused : IsTrue (before_use w next next.since.shadow)) where
+  module _ (k : IsFollowed w r) (is : IsFollowing next) (unused : IsTrue (before_use w next next.since.shadow)) where
     -- a move that makes no restart, by what it does to the shadow
     module _ (n : next.restarts ≡ r.restarts) (s : SameSince r next) (back : IsFollowing r) (memory : LeavesUncovered) where
       -- the run was followed
@@ -200,9 +195,19 @@ module _ (w : World) (a : Accepted w) (ms : Moves) (x : Answer) where
           (carries (ap (λ (v : Watched). v.shade.hart) e) (ap (λ (v : Watched). v.shade.page) e)
           (λ c h. ap (λ (v : Watched). v.shade.shared c) e ∙ patch-outside r.shared b width (byte_of v) c (inr (omega (arith, low, h))))) followed-before
       by_shade (halts e) =
-          stopped (record next { shadow = r.shadow }) next refl refl refl refl
-          (ap (λ (v : Watched). record { hart = v.shade.hart; page = next.shadow_page; shared = next.shared }) e) refl
-          (covered w r (record next { shadow = r.shadow }) (carries-hart e) followed-before)
+          followed.rests
+          (stopped w a (record next { shadow = r.shadow }) next
+          (record {
+            origin = refl;
+            filled = refl;
+            count = refl;
+            hints = refl;
+            registers = ap (λ (v : Watched). v.shade.hart.registers) e;
+            files = ap (λ (v : Watched). v.shade.hart.files) e;
+            shared = refl;
+            memory = refl;
+          }) (ap (λ (v : Watched). v.shade.hart.pc) e) (λ s. stopped_running (sym (ap (λ (v : Watched). v.shade.hart.state) e) ∙ s))
+          (covered w r (record next { shadow = r.shadow }) (carries-hart e) followed-before))
       by_shade (begins v e) = let more : next.restarts ≡ r.restarts + 1 = ap (λ (v : Watched). v.restarts) e in absurd (omega (arith, more, n))
 
     -- by what the move counts
@@ -231,8 +236,8 @@ module _ (w : World) (a : Accepted w) (ms : Moves) (x : Answer) where
     by_move (inr (z, step-is, s)) = by_since step-is s
 
   -- at each own move
-  pub own-followed : StoppingFollows w → IsFollowed w r → IsFollowed w next
-  own-followed stopped k is unused = by_move stopped k is unused (own-since w x r)
+  pub own-followed : IsFollowed w r → IsFollowed w next
+  own-followed k is unused = by_move k is unused (own-since w x r)
 
 -- ---- fetches
 

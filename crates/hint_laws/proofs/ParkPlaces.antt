@@ -1,9 +1,10 @@
 -- Where an HPARK stands in the shadow text: among the helpers, or at word 1 or word 3 of a block, so that the shadow is left at no arrival and behind no call.
-use Rattle.std.proofs.Common.{◌≡◌, ℕ, zero, suc, ◌+◌, ◌-◌, ◌*◌, ◌/◌, ◌%◌, ◌^◌, ◌≤◌, ◌<◌, Bool, true, false, not, ◌&&◌, ◌||◌, ◌==◌, ℤ, List, [], ◌∷◌, ◌++◌, length, slice_get, nat_le, nat_lt, Option, Some, None, refl, ◌∙◌, ap, subst, arith, zero-add}
+use Rattle.std.proofs.Common.{◌≡◌, ℕ, zero, suc, ◌+◌, ◌-◌, ◌/◌, ◌%◌, ◌^◌, ◌≤◌, ◌<◌, Bool, true, false, not, ◌&&◌, ◌||◌, ◌==◌, ℤ, List, [], ◌∷◌, ◌++◌, length, slice_get, nat_le, nat_lt, Option, Some, None, refl, ◌∙◌, ap, subst, arith, zero-add}
 use Rattle.std.specs.Prelude.{◌≢◌}
 use Rattle.std.specs.Option.{option_and_then}
 use Rattle.std.proofs.lemmas.Option.{slice_get_within}
 use Rattle.std.proofs.lemmas.Bool.Decides.{nat_tests}
+use Rattle.std.proofs.lemmas.Bool.{and_left, and_right}
 use Rattle.spec_base.specs.Word.{plus_int}
 use Rattle.spec_base.specs.Layout.{shadow_start, helpers_start}
 use Rattle.spec_base.specs.declared.layout.Layout.{Layout}
@@ -11,14 +12,14 @@ use Rattle.spec_base.specs.declared.park.Park.{Park}
 use Rattle.rv_decode.specs.declared.instr.Instr.{Instr}
 use Rattle.rv_decode.specs.declared.instr.Instr.TheVariants.{Lui, Auipc, Jal, Jalr, Branch, Load, Store, OpImm, OpImmW, Op, OpW, Fence, Ecall, Ebreak, Hgate, Hleave, Hsite, Hkey, Hstop, Hrestart, Hcall, Hpark, Illegal}
 use Rattle.rv_decode.specs.declared.instr.StoreOp.{StoreOp}
-use Rattle.program_model.specs.PlainRun.{text_of}
 use Rattle.rv_model.specs.Effect.{after, fetched}
+use Rattle.program_model.specs.PlainRun.{text_of}
 use Rattle.code_model.specs.Helpers.{helpers}
 use Rattle.code_model.specs.Blocks.{block, guard_block, blocks_from, with_pad, jal_if, is_target, load_restore, link_spill, access_words, store_helper, store_end}
-use Rattle.own_laws.proofs.Reached.{none_some, false_true}
 use Rattle.run_model.specs.Run.{World}
 use Rattle.run_model.specs.ShadowMoves.{fetch_shadow, fetch_by, block_word, is_arrival}
 use Rattle.run_model.specs.HintLaws.{is_behind_call}
+use Rattle.own_laws.proofs.Reached.{none_some, false_true}
 
 -- ---- words
 
@@ -146,6 +147,24 @@ module _ (w : World) (pc : ℕ) (cause : Park) where
       by_tests false true f g e = let whole : pc % 4 ≡ 0 = grind (arith, nat_tests, g) in in-block whole e
       by_tests false false f g e = none_some e
 
+-- ---- tests of places
+
+-- what isn't at word 1 of a block is no arrival
+pub off-arrival : (l : Layout) (pc : ℕ) → (pc % 64 == 4) ≡ false → is_arrival l pc ≡ false
+off-arrival l pc h = and_right (nat_lt pc helpers_start) _ (and_right (nat_le shadow_start pc) _ (and_right _ _ h))
+
+-- what isn't at word 7 is behind no call
+pub off-call : (w : World) (pc : ℕ) → (pc % 64 == 28) ≡ false → is_behind_call w pc ≡ false
+off-call w pc h = and_right (nat_le shadow_start pc) _ (and_right (nat_lt pc helpers_start) _ (and_left _ _ h))
+
+-- nor is a word of the helpers
+pub helper-arrival : (l : Layout) (pc : ℕ) → nat_le helpers_start pc ≡ true → is_arrival l pc ≡ false
+helper-arrival l pc h = let beyond : nat_lt pc helpers_start ≡ false = grind (arith, nat_tests, h) in and_left _ _ beyond
+
+-- and it is behind no call
+pub helper-call : (w : World) (pc : ℕ) → nat_le helpers_start pc ≡ true → is_behind_call w pc ≡ false
+helper-call w pc h = let beyond : nat_lt pc helpers_start ≡ false = grind (arith, nat_tests, h) in and_right (nat_le shadow_start pc) _ (and_left _ _ beyond)
+
 -- ---- behind it
 
 -- the next word is neither word 1 of a block nor behind a call
@@ -154,33 +173,18 @@ pub record IsBehindPark (w : World) (pc : ℕ) : Type 0 where
   pub no_call : is_behind_call w (after pc) ≡ false
 
 module _ (w : World) (pc : ℕ) where
-  -- a test of which the second part fails, fails
-  fails-right : (b c : Bool) → c ≡ false → (b && c) ≡ false
-  fails-right true c h = h
-  fails-right false c h = refl
-
-  -- or the first
-  fails-left : (b c : Bool) → b ≡ false → (b && c) ≡ false
-  fails-left b c h = ap (λ (d : Bool). d && c) h
-
   -- behind the helpers' words
   behind-helper : helpers_start ≤ pc → pc + 4 < 2 ^ 64 → IsBehindPark w pc
   behind-helper above few =
-      let beyond : nat_lt (after pc) helpers_start ≡ false = grind (arith, nat_tests, above, few) in
-      record { no_arrival = fails-left _ _ beyond; no_call = fails-right _ _ (fails-left _ _ beyond) }
+      let beyond : nat_le helpers_start (after pc) ≡ true = grind (arith, nat_tests, above, few) in
+      record { no_arrival = helper-arrival w.image.layout (after pc) beyond; no_call = helper-call w (after pc) beyond }
 
   -- at a word that is neither 1 nor 7
   behind-word : after pc % 64 ≢ 4 → after pc % 64 ≢ 28 → IsBehindPark w pc
   behind-word n m =
       let one : (after pc % 64 == 4) ≡ false = grind (arith, nat_tests, n) in
       let seven : (after pc % 64 == 28) ≡ false = grind (arith, nat_tests, m) in
-      record {
-        no_arrival =
-            fails-right (nat_lt (after pc) helpers_start) _
-            (fails-right (nat_le shadow_start (after pc)) _
-            (fails-right (nat_le (after pc) (shadow_start + 16 * (w.image.layout.text_end - w.image.layout.text_start) + 4)) _ one));
-        no_call = fails-right (nat_le shadow_start (after pc)) _ (fails-right (nat_lt (after pc) helpers_start) _ (fails-left _ _ seven));
-      }
+      record { no_arrival = off-arrival w.image.layout (after pc) one; no_call = off-call w (after pc) seven }
 
   -- what is fetched among the helpers stands before their end
   helper-few : (i : Instr) → nat_le helpers_start pc ≡ true → fetched (helpers w.image.layout) helpers_start pc ≡ Some i → pc + 4 < 2 ^ 64

@@ -1,39 +1,21 @@
 -- What is promised of hints and of the shadow at word 1 of a block, of each run whose shadow follows.
-use Rattle.std.proofs.Common.{◌≡◌, ℕ, zero, suc, ◌+◌, ◌<◌, ◌⊎◌, inl, inr, Bool, true, false, List, [], Option, Some, refl, ◌∙◌, ap, sym, subst, arith, cond}
+use Rattle.std.proofs.Common.{◌≡◌, ℕ, suc, ◌⊎◌, inl, inr, true, false, Some, ◌∙◌, ap, sym, subst}
 use Rattle.std.specs.Prelude.{IsTrue}
 use Rattle.spec_base.specs.declared.layout.Layout.{Layout}
-use Rattle.spec_base.specs.declared.spot.ReadSpot.{ReadSpot}
-use Rattle.rv_model.specs.Registers.{Registers, reg}
-use Rattle.rv_model.specs.Rights.{is_data}
 use Rattle.program_model.specs.PlainRun.{State}
 use Rattle.run_model.specs.Run.{World, Run}
 use Rattle.run_model.specs.ShadowMoves.{is_arrival}
 use Rattle.run_model.specs.Restarts.{from_restart, nothing, reads, unfilled, before_horizon}
 use Rattle.run_model.specs.Marks.{Marks, marks, before_use}
 use Rattle.run_model.specs.HintLaws.{is_behind_call, hinted_up_to, StandsFor, FollowsUntilUse}
-use Rattle.side_model.specs.Hart.{Regs, get}
-use Rattle.side_model.specs.Sees.{HasRegs}
-use Rattle.mark_laws.specs.Agreement.{Agrees, SeesAlike}
-use Rattle.mark_laws.proofs.Horizons.{marks-unfilled, no_register-marked, marked-unfilled}
 use Rattle.run_model.specs.OwnLaws.{Accepted}
+use Rattle.own_laws.proofs.Reached.{false_true}
+use Rattle.side_model.specs.Hart.{Regs}
+use Rattle.mark_laws.proofs.Horizons.{no_register-marked, marked-unfilled}
 use Rattle.hint_laws.proofs.Within.{Doing}
-use Rattle.hint_laws.proofs.Spots.{within-whole, inner-arrival, works-call}
-use Rattle.hint_laws.proofs.Followed.{AreCopied, view_in, registers, regs_of, Spot, first, inner, Works, Behind, Strays, Stands, Rests, Followed, works, behind, strays, rests}
-
--- false isn't true
-wrong : {A : Type 0} → false ≡ true → A
-wrong {A} e = absurd (no e)
-  where
-    no : false ≡ true → ⊥
-    no e = cc
-
--- a hart that has the registers of a row agrees with a state where they do
-pub agrees-shown : (m : Marks) (rs : Registers) (g : Regs) (q : State) → HasRegs rs g → Agrees m (registers g) q → Agrees m rs q
-agrees-shown m rs g q has agrees = record { registers = λ i some few free. by_number i some few free }
-  where
-    by_number : (i : ℕ) → 0 < i → i < 32 → m.registers i ≡ false → rs i ≡ q.registers i
-    by_number zero some few free = absurd (omega (arith, some))
-    by_number (suc i) some few free = has.at (suc i) ∙ agrees.registers (suc i) some few free
+use Rattle.hint_laws.proofs.Spots.{within-whole, inner-arrival, works-call, works-stands}
+use Rattle.hint_laws.proofs.Followed.{Works, Behind, Stands, Followed, works, behind, strays, rests}
+use Rattle.hint_laws.proofs.Transport.{hinted-off, hinted-on, no-reads}
 
 module _ (w : World) (a : Accepted w) (r : Run) where
   abbrev l : Layout
@@ -44,38 +26,28 @@ module _ (w : World) (a : Accepted w) (r : Run) where
 
   -- ---- hints
 
-  -- up to which instruction the hints reach
-  up_to-unmade : is_behind_call w pc ≡ false → hinted_up_to w r ≡ r.since.shadow
-  up_to-unmade e = ap (λ (b : Bool). cond b (r.since.shadow + 1) r.since.shadow) e
-
-  up_to-made : is_behind_call w pc ≡ true → hinted_up_to w r ≡ suc r.since.shadow
-  up_to-made e = ap (λ (b : Bool). cond b (r.since.shadow + 1) r.since.shadow) e ∙ omega arith
-
+  -- the hints are the reads up to an instruction
   abbrev HintsReach : ℕ → Type 0
   HintsReach i = r.since.hints ≡ reads w r i
 
+  -- those of a shadow on an instruction
   works-hints : (s : ℕ) (m : Marks) (q : State) (program : ℕ → ℕ) (d : Doing) (n : ℕ) → Works w r s m q program d n → HintsReach (hinted_up_to w r)
-  works-hints s m q program d n k = subst HintsReach (sym (up_to-unmade (works-call w a k) ∙ k.count)) k.hints
+  works-hints s m q program d n k = subst HintsReach (sym (hinted-off w r (works-call w a k) ∙ k.count)) k.hints
 
-  -- behind RESTART's call there is no read yet
-  no-reads : (s : ℕ) → s ≡ 0 → HintsReach (suc s) → HintsReach s
-  unfolding reads
-  no-reads zero e h = h
-  no-reads (suc s) e h = absurd (omega (arith, e))
-
+  -- those of a shadow behind a call; behind RESTART's there is none yet
   behind-hints : (s : ℕ) (m : Marks) (q : State) (to : ℕ) (g : Regs) (program : ℕ → ℕ) (n : ℕ) → Behind w r s m q to g program n → HintsReach (hinted_up_to w r)
   behind-hints s m q to g program n k = by_turn k.turn
     where
       by_turn : (is_behind_call w pc ≡ true) ⊎ ((is_behind_call w pc ≡ false) × (s ≡ 0)) → HintsReach (hinted_up_to w r)
-      by_turn (inl e) = subst HintsReach (sym (up_to-made e ∙ ap suc k.count)) k.hints
-      by_turn (inr (e, none)) = subst HintsReach (sym (up_to-unmade e ∙ k.count)) (no-reads s none k.hints)
+      by_turn (inl e) = subst HintsReach (sym (hinted-on w r e ∙ ap suc k.count)) k.hints
+      by_turn (inr (e, none)) = subst HintsReach (sym (hinted-off w r e ∙ k.count)) (k.hints ∙ sym (no-reads w r r s none))
 
   -- as long as no use comes before
   pub until-use : Followed w r → IsTrue (before_use w r (hinted_up_to w r)) → HintsReach (hinted_up_to w r)
   until-use (works s m q program d n k) free = works-hints s m q program d n k
   until-use (behind s m q to g program n k) free = behind-hints s m q to g program n k
   until-use (strays s bytes program to g n k) free =
-      let at : hinted_up_to w r ≡ suc s = up_to-made k.behind ∙ ap suc k.count in wrong (sym k.used ∙ ap (before_use w r) (sym at) ∙ free)
+      let at : hinted_up_to w r ≡ suc s = hinted-on w r k.behind ∙ ap suc k.count in false_true (sym k.used ∙ ap (before_use w r) (sym at) ∙ free)
   until-use (rests k) free = k.hints free
 
   -- and before the horizon
@@ -83,37 +55,23 @@ module _ (w : World) (a : Accepted w) (r : Run) where
   before-horizon (works s m q program d n k) free = works-hints s m q program d n k
   before-horizon (behind s m q to g program n k) free = behind-hints s m q to g program n k
   before-horizon (strays s bytes program to g n k) free =
-      subst HintsReach (sym (up_to-made k.behind ∙ ap suc k.count)) (k.hints (subst (λ (i : ℕ). IsTrue (before_horizon w r i)) k.count free))
+      subst HintsReach (sym (hinted-on w r k.behind ∙ ap suc k.count)) (k.hints (subst (λ (i : ℕ). IsTrue (before_horizon w r i)) k.count free))
   before-horizon (rests k) free = k.horizon free
 
   -- ---- word 1 of a block
 
   -- where the shadow stands for a state
   pub stands : Followed w r → is_arrival l pc ≡ true → (q : State) × Stands w r q
-  stands (works s m q program d n k) e = by_spot k.spot
-    where
-      by_spot : Spot w r q d → (q : State) × Stands w r q
-      by_spot (first at has running) = (
-        q,
-        record {
-          state = ap (from_restart w r) k.count ∙ k.state;
-          inside = k.inside;
-          place = at;
-          agrees = subst (λ (m : Marks). Agrees m r.shadow.registers q) (sym (ap (marks w r) k.count ∙ k.marked)) (agrees-shown m r.shadow.registers (regs_of d) q has k.agrees);
-          files = k.files;
-          sees = subst (λ (m : Marks). SeesAlike l m (view_in r) q) (sym (ap (marks w r) k.count ∙ k.marked)) (k.sees running (inr e));
-          copied = subst (λ (i : ℕ). AreCopied w r i) (sym k.count) k.copied;
-        },
-      )
-      by_spot (inner at) = wrong (sym (inner-arrival w a (within-whole k.within) at) ∙ e)
-  stands (behind s m q to g program n k) e = wrong (sym (inner-arrival w a (within-whole k.within) k.place) ∙ e)
-  stands (strays s bytes program to g n k) e = wrong (sym (inner-arrival w a (within-whole k.within) k.place) ∙ e)
+  stands (works s m q program d n k) e = (q, works-stands w a k e)
+  stands (behind s m q to g program n k) e = false_true (sym (inner-arrival w a (within-whole k.within) k.place) ∙ e)
+  stands (strays s bytes program to g n k) e = false_true (sym (inner-arrival w a (within-whole k.within) k.place) ∙ e)
   stands (rests k) e = k.stands e
 
   -- the same in the words of the promise
   stands-for : (q : State) → Stands w r q → StandsFor w r (marks w r r.since.shadow).registers (marks w r r.since.shadow).bytes q
   stands-for q s = record { inside = s.inside; place = s.place; registers = s.agrees.registers; files = s.files; bytes = s.sees.bytes }
 
+  -- until the first use
   pub follows_until_use : Followed w r → FollowsUntilUse w r
   follows_until_use f = record { hints = until-use f; follows = λ e. let s = stands f e in (s.0, s.1.state, stands-for s.0 s.1) }
 

@@ -1,8 +1,8 @@
 -- A shadow that follows the program goes on following it where it arrives behind an instruction that is no use.
-use Rattle.std.proofs.Common.{◌≡◌, ℕ, zero, suc, ◌+◌, ◌-◌, ◌/◌, ◌%◌, ◌<◌, ◌≤◌, ◌⊎◌, inl, inr, Bool, true, false, ◌||◌, ◌==◌, ℤ, [], ◌++◌, append-nil, Option, Some, refl, ◌∙◌, ap, ap₂, sym, subst, arith}
-use Rattle.std.specs.Prelude.{⊤, IsTrue}
+use Rattle.std.proofs.Common.{◌≡◌, ℕ, zero, suc, ◌+◌, ◌-◌, ◌/◌, ◌%◌, ◌<◌, ◌≤◌, ◌⊎◌, inl, inr, Bool, true, false, ◌==◌, ℤ, [], ◌++◌, append-nil, Option, Some, refl, ◌∙◌, ap, ap₂, sym, subst, arith}
+use Rattle.std.specs.Prelude.{IsTrue}
 use Rattle.std.specs.Option.{option_and_then}
-use Rattle.std.proofs.lemmas.Bool.{and_parts}
+use Rattle.std.proofs.lemmas.Bool.{and_parts, or_cases}
 use Rattle.std.proofs.lemmas.Bool.Decides.{nat_tests}
 use Rattle.spec_base.specs.Listed.{is_listed}
 use Rattle.spec_base.specs.Word.{plus_int}
@@ -26,6 +26,7 @@ use Rattle.run_model.specs.ShadowMoves.{shadow_step}
 use Rattle.run_model.specs.Restarts.{Action, from_restart, instr_at, instr_action, some_action, action, read_in, reads}
 use Rattle.run_model.specs.Marks.{Marks, mark_bytes, marks_after, marks_after_some, marks_with, marks, is_use, some_use, before_use_with, before_use}
 use Rattle.run_model.specs.OwnLaws.{Accepted}
+use Rattle.own_laws.proofs.Reached.{false_true}
 use Rattle.side_model.specs.Hart.{Regs, get}
 use Rattle.side_model.specs.Tables.{Tabs, all_regions}
 use Rattle.side_model.specs.Places.{width_of}
@@ -33,30 +34,27 @@ use Rattle.side_model.specs.Words.{Point}
 use Rattle.side_model.specs.Sees.{HasRegs}
 use Rattle.side_model.proofs.Registers.{HasRegs-put}
 use Rattle.rows_access.specs.Accesses as access
-use Rattle.rows_access.specs.Accesses.{load_size, store_size}
+use Rattle.rows_access.specs.Accesses.{store_size}
 use Rattle.rows_access.specs.LoadRows.{LoadArrives}
 use Rattle.rows_access.specs.StoreRows.{StoreArrives}
 use Rattle.rows_access.proofs.AccessPlaces.{same-region, load-width, store-width}
 use Rattle.rows_access.proofs.Reach.{Reached, reached as reaches_data}
 use Rattle.rows_flow.specs.Following.{GoesOn, FlowArrives}
-use Rattle.own_laws.proofs.Reached.{false_true}
 use Rattle.shadow_laws.proofs.TextBlocks.{text}
 use Rattle.mark_laws.specs.Agreement.{IsAt, SeesAlike, may_access, Leads, FlowLeads, StoreLeads}
 use Rattle.mark_laws.specs.Settled.{settles, settled_with}
 use Rattle.mark_laws.proofs.Changes.{from_restart-next}
 use Rattle.mark_laws.proofs.Horizons.{and_right, not_true}
-use Rattle.mark_laws.proofs.Numbers.{from_restart-origin, reads-origin, marks_with-alike, settled_with-alike}
+use Rattle.mark_laws.proofs.Numbers.{from_restart-origin, reads-origin}
 use Rattle.mark_laws.proofs.OneInstruction.{unmarked-register, flow_agrees, load_agrees, store_agrees}
-use Rattle.hint_laws.proofs.Within.{Doing, does, ends, restarts, goes_to, known_from}
+use Rattle.hint_laws.proofs.Within.{Doing, does, known_from, within-running}
 use Rattle.hint_laws.proofs.WithinSteps.{KeepsCopies, IsQuiet, Comes, flows, loads, stores, returns}
-use Rattle.hint_laws.proofs.Followed.{known, registers, program_in, view_in, AreCopied, DoesOf, instruction, text_end, restart, Works, Followed}
+use Rattle.hint_laws.proofs.Followed.{known, registers, program_in, view_in, AreCopied, Works, Followed}
 use Rattle.hint_laws.proofs.Views.{known-number, stored-seen, has-registers, agrees-as, no_rights, IsFlow, flow-is}
-use Rattle.hint_laws.proofs.Arriving.{within-runs, Arrives, StandsAt, follows-there, leaves, stays, counted, alike, view-stays, filled-stays, used-stays, keeps-all}
-
--- one of two tests passes
-one_of : (b c : Bool) → (b || c) ≡ true → (b ≡ true) ⊎ (c ≡ true)
-one_of true c e = inl refl
-one_of false c e = inr e
+use Rattle.hint_laws.proofs.Arriving.{Arrives, StandsAt, follows-there, leaves, stays, counted, view-stays, keeps-all}
+use Rattle.hint_laws.proofs.Spots.{InstructionOf, instruction-of}
+use Rattle.hint_laws.proofs.Transport.{same-marks, same-use, same-settled, filled-same}
+use Rattle.hint_laws.proofs.WordFacts.{WordLeaves, HintsStay}
 
 module _ (w : World) (a : Accepted w) (x : Answer) (r : Run) where
   abbrev l : Layout
@@ -67,18 +65,6 @@ module _ (w : World) (a : Accepted w) (x : Answer) (r : Run) where
 
   -- ---- the instruction at hand
 
-  -- what is so of the instruction that the shadow works on; behind a call it works on none
-  abbrev InstructionOf : State → Doing → Type 0
-  InstructionOf q (does p i g) = (p ≡ q.pc) × (instr_at w.image q ≡ Some i) × HasRegisters i
-  InstructionOf q (ends g) = ⊤
-  InstructionOf q (restarts site g) = ⊤
-  InstructionOf q (goes_to to g) = ⊥
-
-  instruction-of : {q : State} {d : Doing} → DoesOf w q d → InstructionOf q d
-  instruction-of (instruction i g word has) = (refl, word, has)
-  instruction-of (text_end g e) = tt
-  instruction-of (restart g e) = tt
-
   -- an instruction that is no read leaves the reads
   reads-stay : (s : ℕ) → read_in (action w r (suc s)) ≡ [] → reads w r (suc s) ≡ reads w r s
   unfolding reads
@@ -86,8 +72,17 @@ module _ (w : World) (a : Accepted w) (x : Answer) (r : Run) where
   reads-stay (suc s) e = ap (λ more. reads w r (suc s) ++ more) e ∙ append-nil (reads w r (suc s))
 
   module _ {s : ℕ} {m : Marks} {q : State} {program : Memory} {d : Doing} {n : ℕ} (v : Works w r s m q program d n) (quiet : IsQuiet w r) (i : Instr) (word : instr_at w.image q ≡ Some i) where
+    -- the shadow runs
     runs : r.shadow.state ≡ Running
-    runs = within-runs v.within
+    runs = within-running v.within
+
+    -- what the word leaves
+    left : WordLeaves w r next
+    left = leaves w a x r runs quiet
+
+    -- the hints, the filled reads and the descriptors stay
+    stayed : HintsStay r next
+    stayed = stays w a x r runs quiet
 
     -- whether its read is filled, if it is one
     abbrev filled : Bool
@@ -110,7 +105,7 @@ module _ (w : World) (a : Accepted w) (x : Answer) (r : Run) where
     unfolding before_use_with
     no-use at before =
         let count : next.since.shadow ≡ suc s = counted w a x r runs quiet at ∙ ap suc v.count in
-        let unused : IsTrue (before_use w r (suc s)) = sym (used-stays w a x r runs quiet s) ∙ sym (ap (before_use w next) count) ∙ before in
+        let unused : IsTrue (before_use w r (suc s)) = sym (same-use w r next left.origin stayed.filled (suc s)) ∙ sym (ap (before_use w next) count) ∙ before in
         sym (ap₂ (λ (o : Option State) (marks : Marks). some_use w.image o marks) v.state v.marked ∙ ap (λ (o : Option Instr). is_use l q o m) word)
         ∙ not_true (some_use w.image (from_restart w r s) (marks w r s)) (and_right (before_use w r s) _ unused)
 
@@ -118,14 +113,14 @@ module _ (w : World) (a : Accepted w) (x : Answer) (r : Run) where
     marked-behind : marks w next (suc s) ≡ behind_marks
     unfolding marks_with
     marked-behind =
-        marks_with-alike w r next r.since.filled next.since.filled (suc s) (alike w a x r runs quiet (suc s))
+        same-marks w r next left.origin stayed.filled (suc s)
         ∙ ap₂ (λ (o : Option State) (marks : Marks). marks_after_some w.image filled o marks) v.state v.marked ∙ ap (λ (o : Option Instr). marks_after l filled q o m) word
 
     -- settled bytes have copies, where those have that it settles
     copied-behind : KeepsCopies l r.shared next.shared → ((y : ℕ) → settles (instr_action l q (Some i)) filled y ≡ true → (y / 256 < all_regions l) × (0 < entry_of next.shared (y / 256))) → AreCopied w next (suc s)
     unfolding settled_with
     copied-behind keeps own y e =
-        by_case (one_of (settled_with r.since.filled w r s y) _ (sym (settled_with-alike w r next r.since.filled next.since.filled (suc s) (alike w a x r runs quiet (suc s)) y) ∙ e))
+        by_case (or_cases (settled_with r.since.filled w r s y) _ (sym (same-settled w r next left.origin stayed.filled (suc s) y) ∙ e))
       where
         by_case : (settled_with r.since.filled w r s y ≡ true) ⊎ (settles (action w r (suc s)) filled y ≡ true) → (y / 256 < all_regions l) × (0 < entry_of next.shared (y / 256))
         by_case (inl h) = let was = v.copied y h in (was.0, subst (λ n. 0 < n) (sym (keeps (y / 256) was.0 was.1)) was.1)
@@ -139,14 +134,14 @@ module _ (w : World) (a : Accepted w) (x : Answer) (r : Run) where
           some = omega arith;
           count = counted w a x r runs quiet at ∙ ap suc v.count;
           marked = marked-behind;
-          state = from_restart-origin w r next (leaves w a x r runs quiet).origin (suc s) ∙ from_restart-next w r s ∙ ap (option_and_then (next_state w.image w.files all_taken)) v.state ∙ y.completes;
+          state = from_restart-origin w r next left.origin (suc s) ∙ from_restart-next w r s ∙ ap (option_and_then (next_state w.image w.files all_taken)) v.state ∙ y.completes;
           goes_on = y.goes_on;
           agrees = agrees-as behind_marks new pt.regs y.state has y.agrees;
-          files = (stays w a x r runs quiet).files ∙ v.files ∙ sym y.descriptors;
+          files = stayed.files ∙ v.files ∙ sym y.descriptors;
           sees = sees;
           copied = copied;
-          filled = filled-stays w a x r runs quiet s (suc s) (omega arith) v.filled;
-          hints = (stays w a x r runs quiet).hints ∙ v.hints ∙ sym (reads-stay s (ap read_in acts ∙ none)) ∙ sym (reads-origin w r next (leaves w a x r runs quiet).origin (suc s));
+          filled = λ k less. filled-same r next stayed.filled s v.filled k (omega (arith, less));
+          hints = stayed.hints ∙ v.hints ∙ sym (reads-stay s (ap read_in acts ∙ none)) ∙ sym (reads-origin w r next left.origin (suc s));
         }
 
   -- ---- behind each kind of instruction
@@ -168,7 +163,7 @@ module _ (w : World) (a : Accepted w) (x : Answer) (r : Run) where
       (subst (λ (z : ℕ). effect Plain (data_rights l) seen (registers g) z i ≡ Next gone.registers target) pc gone.next) in
       follows-there w a x r
       (stands v quiet i word at y.leads gone.shown
-      (subst (λ (z : Memory). SeesAlike l (behind_marks v quiet i word) z y.leads.state) (sym (view-stays w a x r (within-runs v.within) quiet same)) (y.sees seen (v.sees refl (inl (flow.no_store p g)))))
+      (subst (λ (z : Memory). SeesAlike l (behind_marks v quiet i word) z y.leads.state) (sym (view-stays w a x r (within-running v.within) quiet same)) (y.sees seen (v.sees refl (inl (flow.no_store p g)))))
       (copied-behind v quiet i word (keeps-all w a x r same) (λ b e. false_true (sym (ap (λ (act : Action). settles act (filled v quiet i word) b) flow.other) ∙ e)))
       (ap read_in flow.other))
       y.leads.pc at
@@ -191,7 +186,7 @@ module _ (w : World) (a : Accepted w) (x : Answer) (r : Run) where
       (known-number l m q from (load_width op) arrives.number inside given) in
       follows-there w a x r
       (stands v quiet i word at y.leads (subst (λ (z : Regs). HasRegs new z) (sym arrives.registers) (HasRegs-put (registers g) g rd (extended op arrives.number) (has-registers g)))
-      (subst (λ (z : Memory). SeesAlike l (behind_marks v quiet i word) z y.leads.state) (sym (view-stays w a x r (within-runs v.within) quiet shared)) (y.sees (view_in r) (v.sees refl (inl refl))))
+      (subst (λ (z : Memory). SeesAlike l (behind_marks v quiet i word) z y.leads.state) (sym (view-stays w a x r (within-running v.within) quiet shared)) (y.sees (view_in r) (v.sees refl (inl refl))))
       (copied-behind v quiet i word (keeps-all w a x r shared) (λ b e. false_true e)) refl)
       (y.leads.pc ∙ next-word q pc arrives.next at.block.below) at
 
@@ -237,7 +232,7 @@ module _ (w : World) (a : Accepted w) (x : Answer) (r : Run) where
 
       seen : SeesAlike l (behind_marks v quiet i word) (view_in next) y.leads.state
       seen =
-          subst (λ (memory : Memory). SeesAlike l (behind_marks v quiet i word) (shadowed next.shared memory) y.leads.state) (sym (ap (λ o. o.memory) (leaves w a x r (within-runs v.within) quiet).own))
+          subst (λ (memory : Memory). SeesAlike l (behind_marks v quiet i word) (shadowed next.shared memory) y.leads.state) (sym (ap (λ o. o.memory) (leaves w a x r (within-running v.within) quiet).own))
           (subst (λ (z : ℕ). SeesAlike l (mark_bytes m z width (m.registers rs2)) (shadowed next.shared r.own.memory) y.leads.state) in_state
           (stored-seen l m (rewritten_words w) r.own.memory next.shared q y.leads.state pt.tabs to width (get rs2 g) (m.registers rs2) at.shown.tabs arrives.viewed alike_there))
 
@@ -270,7 +265,7 @@ module _ (w : World) (a : Accepted w) (x : Answer) (r : Run) where
       → Comes l (known l m q) (program_in w r) r.shared target pt.regs pt.tabs next.shared d → IsQuiet w r → IsTrue (before_use w next next.since.shadow) → Followed w next
   reached {s} {m} {q} {program} {d} {n} {target} {base} {pt} v at comes quiet before = by_coming v (instruction-of v.doing) comes
     where
-      by_coming : {d : Doing} → Works w r s m q program d n → InstructionOf q d → Comes l (known l m q) (program_in w r) r.shared target pt.regs pt.tabs next.shared d → Followed w next
+      by_coming : {d : Doing} → Works w r s m q program d n → InstructionOf w q d → Comes l (known l m q) (program_in w r) r.shared target pt.regs pt.tabs next.shared d → Followed w next
       by_coming v is (flows arrives same) = flowed v quiet is.0 is.1 is.2 arrives same at before
       by_coming v is (loads arrives same) = loaded_there v quiet is.0 is.1 is.2 arrives same at before
       by_coming v is (stores t0 arrives keeps) = stored_there v quiet is.0 is.1 is.2 arrives keeps at before

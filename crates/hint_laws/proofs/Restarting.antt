@@ -1,5 +1,5 @@
 -- A restart makes the shadow follow anew: it stands at the first word of RESTART, for the state at the gate, with nothing marked.
-use Rattle.std.proofs.Common.{◌≡◌, ℕ, zero, suc, ◌+◌, ◌*◌, ◌%◌, ◌^◌, ◌<◌, ◌⊎◌, inl, inr, Bool, true, false, ◌==◌, List, [], ◌∷◌, ◌++◌, length, length-append, Option, Some, None, refl, ◌∙◌, ap, sym, subst, arith}
+use Rattle.std.proofs.Common.{◌≡◌, ℕ, ◌+◌, ◌*◌, ◌%◌, ◌⊎◌, inl, inr, Bool, true, false, ◌==◌, List, [], ◌∷◌, ◌++◌, length, length-append, Option, Some, None, refl, ◌∙◌, ap, sym, subst, arith}
 use Rattle.std.specs.Prelude.{⊤, ◌≢◌}
 use Rattle.spec_base.specs.Files.{Files}
 use Rattle.spec_base.specs.declared.layout.Layout.{Layout}
@@ -30,24 +30,19 @@ use Rattle.own_laws.proofs.OwnSide.{OwnSide, in_program, in_stub, at_call, waits
 use Rattle.own_laws.proofs.Reached.{none_some, false_true}
 use Rattle.own_laws.proofs.Side.{side_of, Side, Tally}
 use Rattle.side_model.specs.Hart.{Regs}
-use Rattle.side_model.specs.Places.{InHelper, Restarting}
 use Rattle.side_model.specs.Tables.{Tabs, HasTabs, TableOk}
 use Rattle.side_model.specs.Sees.{shade_of}
-use Rattle.side_model.proofs.Numbers.{TextFits}
-use Rattle.side_model.proofs.Private.{priv_of, HasPriv-of}
 use Rattle.side_model.proofs.Registers.{regs_of, HasRegs-of}
 use Rattle.rows_log.specs.CallRows.{IsSite}
-use Rattle.rows_log.specs.RestartRows.{HasBox}
-use Rattle.rows_log.proofs.RestartWords.{restart_starts}
 use Rattle.shadow_laws.proofs.OwnShades.{watched_of}
-use Rattle.shadow_laws.proofs.ShadowRuns.{HasTables, has-tables, run-keeps, gate-site}
-use Rattle.shadow_laws.proofs.Sound.{Target, target-of}
-use Rattle.shadow_laws.proofs.TextBlocks.{text}
+use Rattle.shadow_laws.proofs.ShadowRuns.{HasTables, has-tables, run-keeps, gate-site, restart-target, restart-at, has-box}
+use Rattle.shadow_laws.proofs.Sound.{Target}
 use Rattle.mark_laws.specs.Settled.{settled_with}
 use Rattle.hint_laws.proofs.Within.{restarts, Within, restarting}
 use Rattle.hint_laws.proofs.WithinSteps.{in_helper}
-use Rattle.hint_laws.proofs.Followed.{program_in, registers, known, restart, inner, Works, Followed, works}
+use Rattle.hint_laws.proofs.Followed.{program_in, known, restart, inner, Works, Followed, works}
 use Rattle.hint_laws.proofs.OwnSince.{OwnSince, rests, counts, anew, own-since}
+use Rattle.hint_laws.proofs.Views.{agrees-as}
 
 -- ---- the instruction at a gate is a call
 
@@ -100,10 +95,11 @@ abbrev exits : Option ℕ → ℕ
 exits None = 0
 exits (Some code) = 1
 
--- those of a state, and of the one that a step leads to
+-- those of a state
 abbrev calls_of : State → ℕ
 calls_of s = length s.calls + exits s.exited
 
+-- those of the state that a step leads to
 abbrev calls_in : Step → ℕ
 calls_in (Went s) = calls_of s
 calls_in (Traps cause) = 0
@@ -204,34 +200,23 @@ module _ (w : World) (a : Accepted w) where
     abbrev l : Layout
     l = w.image.layout
 
+    -- the state at the gate
     abbrev q : State
     q = r.at_gate
 
+    -- its registers
     abbrev g : Regs
     g = regs_of q.registers
 
+    -- the run with the shadow begun anew
     abbrev anew-run : Run
     anew-run = restarted w r
 
     -- it stands at the first word of RESTART
     begins-within : (bytes : ℕ → Option ℕ) (program : Memory) → Within w bytes program (restarts q.pc g) (shade_of anew-run) (63 + 5 * t.count)
     begins-within bytes program =
-        let small : q.pc + 4 < 2 ^ 64 = let f : TextFits l = text w a in omega (arith, k.site.below, f.below) in
-        let target : Target w (q.pc + 4) g = target-of w a (q.pc + 4) g small in
-        let has-box : HasBox r.shared q.pc g = record { holds = boxed.site; registers = λ i h. boxed.registers i h ∙ (HasRegs-of q.registers).at i } in
-        restarting q.pc g target.base target.words k.site target.fits
-        (record {
-          code = target.code;
-          point = record { place = InHelper Restarting 0; regs = regs_of r.shadow.registers; priv = priv_of r.shadow_page; tabs = t };
-          shown = record { pc = refl; regs = HasRegs-of r.shadow.registers; priv = HasPriv-of r.shadow_page; tabs = has; shared = refl; running = refl };
-          ok = ok;
-          row = (restart_starts l q.pc g (regs_of r.shadow.registers) (priv_of r.shadow_page) t, has-box);
-        })
-
-    -- the registers of the row are the state's
-    same-register : (i : ℕ) → 0 < i → registers g i ≡ q.registers i
-    same-register zero h = absurd (omega arith)
-    same-register (suc i) h = sym ((HasRegs-of q.registers).at (suc i))
+        let target : Target w (q.pc + 4) g = restart-target w a r k.site in
+        restarting q.pc g target.base target.words k.site target.fits (restart-at w a r t has ok (has-box w a r.shared q boxed) target)
 
     -- and follows the state at the gate
     begun-works : Works w anew-run 0 no_marks q (program_in w anew-run) (restarts q.pc g) (63 + 5 * t.count)
@@ -247,7 +232,7 @@ module _ (w : World) (a : Accepted w) where
           doing = restart g k.call;
           within = begins-within (known l no_marks q) (program_in w anew-run);
           spot = inner (in_helper refl);
-          agrees = record { registers = λ i h few none. same-register i h };
+          agrees = agrees-as no_marks q.registers g q (HasRegs-of q.registers) (record { registers = λ i h few none. refl });
           files = k.files;
           sees = λ e. false_true (sym e);
           later = λ e. false_true (sym e);

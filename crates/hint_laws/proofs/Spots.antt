@@ -1,39 +1,41 @@
 -- Where a shadow that follows the program stands: between two arrivals it is at none, and it is behind a call only at the word behind the HCALL of a call's block.
-use Rattle.std.proofs.Common.{◌≡◌, ℕ, ◌+◌, ◌-◌, ◌*◌, ◌/◌, ◌%◌, ◌≤◌, ◌<◌, ◌⊎◌, inl, inr, Bool, true, false, ◌&&◌, ◌==◌, nat_le, nat_lt, length, slice_get, Option, Some, None, refl, ◌∙◌, ap, sym, arith, lit<}
+use Rattle.std.proofs.Common.{◌≡◌, ℕ, ◌+◌, ◌-◌, ◌*◌, ◌/◌, ◌%◌, ◌≤◌, ◌<◌, ◌⊎◌, inl, inr, Bool, true, false, ◌&&◌, ◌==◌, nat_le, nat_lt, length, slice_get, Option, Some, None, refl, ◌∙◌, ap, sym, arith, lit<, subst}
 use Rattle.std.specs.Prelude.{⊤}
-use Rattle.std.proofs.lemmas.Bool.{and_from, and_left, and_right}
+use Rattle.std.proofs.lemmas.Bool.{and_right}
 use Rattle.std.proofs.lemmas.Bool.Decides.{nat_tests}
 use Rattle.std.proofs.lemmas.List.{length-map}
 use Rattle.std.proofs.lemmas.Option.{slice_get_within}
 use Rattle.spec_base.specs.Layout.{shadow_start, helpers_start}
 use Rattle.spec_base.specs.declared.layout.Layout.{Layout}
-use Rattle.spec_base.specs.declared.note.ShadowState.TheVariants.{Running}
 use Rattle.rv_decode.specs.Instruction.{instr_of}
 use Rattle.rv_decode.specs.declared.instr.Instr.{Instr}
 use Rattle.rv_decode.specs.declared.instr.Instr.TheVariants.{Ecall}
+use Rattle.rv_decode.specs.Encoding.{HasRegisters}
 use Rattle.rv_model.specs.Memory.{Memory}
 use Rattle.program_model.specs.PlainRun.{State, text_of}
 use Rattle.code_model.specs.Places.{block_at}
-use Rattle.own_laws.proofs.Reached.{none_some, false_true}
 use Rattle.run_model.specs.Run.{World, Run}
 use Rattle.run_model.specs.ShadowMoves.{is_arrival}
-use Rattle.run_model.specs.Restarts.{instr_at}
-use Rattle.run_model.specs.Marks.{Marks}
+use Rattle.run_model.specs.Restarts.{instr_at, from_restart}
+use Rattle.run_model.specs.Marks.{Marks, marks}
 use Rattle.run_model.specs.HintLaws.{is_ecall, is_behind_call}
 use Rattle.run_model.specs.OwnLaws.{Accepted}
+use Rattle.own_laws.proofs.Reached.{none_some, false_true}
 use Rattle.side_model.specs.Hart.{Regs, Priv}
 use Rattle.side_model.specs.Tables.{Tabs}
 use Rattle.side_model.specs.Places.{Place, InBlock, InHelper, Away, address, HasBlock}
-use Rattle.side_model.specs.Sees.{Shade, HasRegs}
+use Rattle.side_model.specs.Sees.{Shade}
 use Rattle.side_model.specs.JumpRows.{JumpRow, j1, j2, j3, j4, j5, j6, j7, j8, j9, j10, j11, j12, j13, j14, j15, j16, lands, faults}
 use Rattle.side_model.proofs.Numbers.{TextFits}
 use Rattle.rows_log.specs.RestartRows.{RestartedRow, UnboxedRow, r49, r50}
 use Rattle.shadow_laws.proofs.Sound.{is_helper}
 use Rattle.shadow_laws.proofs.TextBlocks.{text}
+use Rattle.mark_laws.specs.Agreement.{Agrees, SeesAlike}
 use Rattle.hint_laws.proofs.Within.{Doing, does, ends, restarts, goes_to, Within, computing, quartering, branching, linking, padding, going, jumping, parking, guarded, loading, storing, calling, answered, restarting, unboxing}
 use Rattle.hint_laws.proofs.WithinSteps.{Inner, in_block, in_helper, at_pad, behind_call, behind-is, restarted-place}
-use Rattle.hint_laws.proofs.Followed.{DoesOf, instruction, text_end, restart, is_restart, regs_of, Spot, first, inner, Works}
-use Rattle.hint_laws.proofs.ParkPlaces.{ParkPlace, among_helpers, at_first, at_third}
+use Rattle.hint_laws.proofs.Followed.{DoesOf, instruction, text_end, restart, regs_of, Spot, first, inner, Works, Stands, AreCopied, view_in}
+use Rattle.hint_laws.proofs.ParkPlaces.{ParkPlace, among_helpers, at_first, at_third, off-arrival, off-call, helper-arrival, helper-call}
+use Rattle.hint_laws.proofs.Views.{agrees-shown}
 
 -- ---- what the shadow is doing
 
@@ -62,24 +64,6 @@ within-whole (answered p answer q is at) = omega (arith, is.whole)
 within-whole (restarting site q base words is fits at) = tt
 within-whole (unboxing site q base words is fits at) = omega (arith, is.whole)
 
--- and it runs
-pub within-running : {w : World} {bytes : ℕ → Option ℕ} {program : Memory} {d : Doing} {h : Shade} {n : ℕ} → Within w bytes program d h n → h.hart.state ≡ Running
-within-running (computing p i q is c at) = at.shown.running
-within-running (quartering p rd imm q is f at) = at.shown.running
-within-running (branching p op rs1 rs2 imm q is at) = at.shown.running
-within-running (linking p rd imm q is at) = at.shown.running
-within-running (padding p rd imm q words is f at) = at.shown.running
-within-running (going p rd rs1 imm q is at) = at.shown.running
-within-running (jumping p rd rs1 imm q base words is fits at) = at.shown.running
-within-running (parking p i q is c at) = at.shown.running
-within-running (guarded q at) = at.shown.running
-within-running (loading p op rd rs1 imm q is at) = at.shown.running
-within-running (storing p op rs1 rs2 imm q t0 is at) = at.shown.running
-within-running (calling p q is at before) = at.shown.running
-within-running (answered p answer q is at) = at.shown.running
-within-running (restarting site q base words is fits at) = at.shown.running
-within-running (unboxing site q base words is fits at) = at.shown.running
-
 -- whether it is on its way to a block, behind a call
 abbrev pub is_going : Doing → Bool
 is_going (goes_to to q) = true
@@ -93,22 +77,7 @@ is_going (restarts site q) = false
 abbrev pub IsAside : ℕ → Type 0
 IsAside pc = (nat_le helpers_start pc ≡ true) ⊎ (pc % 64 ≡ 0)
 
--- what isn't at word 1 of a block is no arrival
-pub off-arrival : (l : Layout) (pc : ℕ) → (pc % 64 == 4) ≡ false → is_arrival l pc ≡ false
-off-arrival l pc h = and_right (nat_lt pc helpers_start) _ (and_right (nat_le shadow_start pc) _ (and_right _ _ h))
-
--- what isn't at word 7 is behind no call
-pub off-call : (w : World) (pc : ℕ) → (pc % 64 == 28) ≡ false → is_behind_call w pc ≡ false
-off-call w pc h = and_right (nat_le shadow_start pc) _ (and_right (nat_lt pc helpers_start) _ (and_left _ _ h))
-
--- nor is a word of the helpers
-pub helper-arrival : (l : Layout) (pc : ℕ) → nat_le helpers_start pc ≡ true → is_arrival l pc ≡ false
-helper-arrival l pc h = let beyond : nat_lt pc helpers_start ≡ false = grind (arith, nat_tests, h) in and_left _ _ beyond
-
-pub helper-call : (w : World) (pc : ℕ) → nat_le helpers_start pc ≡ true → is_behind_call w pc ≡ false
-helper-call w pc h = let beyond : nat_lt pc helpers_start ≡ false = grind (arith, nat_tests, h) in and_right (nat_le shadow_start pc) _ (and_left _ _ beyond)
-
--- both
+-- what is aside is behind no call
 pub aside-call : (w : World) (pc : ℕ) → IsAside pc → is_behind_call w pc ≡ false
 aside-call w pc (inl h) = helper-call w pc h
 aside-call w pc (inr e) = off-call w pc (grind (arith, nat_tests, e))
@@ -202,34 +171,34 @@ going-last (restarting site q base words is fits at) e f = false_true e
 -- ---- the instruction of a state
 
 -- where an instruction of the text stands
-pub record StandsAt (w : World) (q : State) (i : Instr) : Type 0 where
+pub record InstructionStands (w : World) (q : State) (i : Instr) : Type 0 where
   pub above : w.image.layout.text_start ≤ q.pc
   pub below : q.pc < w.image.layout.text_end
   pub whole : q.pc % 4 ≡ 0
   pub word : slice_get (text_of w.image) ((q.pc - w.image.layout.text_start) / 4) ≡ Some i
 
--- the instruction that is done is that of a state, and stands in the text
-abbrev OnState : World → State → Doing → Type 0
-OnState w q (does p i g) = (p ≡ q.pc) × StandsAt w q i
-OnState w q (ends g) = ⊤
-OnState w q (restarts site g) = ⊤
-OnState w q (goes_to to g) = ⊥
+-- what is so of the instruction that is done for a state; behind a call none is
+abbrev pub InstructionOf : World → State → Doing → Type 0
+InstructionOf w q (does p i g) = (p ≡ q.pc) × (instr_at w.image q ≡ Some i) × HasRegisters i
+InstructionOf w q (ends g) = ⊤
+InstructionOf w q (restarts site g) = (site ≡ q.pc) × (instr_at w.image q ≡ Some Ecall)
+InstructionOf w q (goes_to to g) = ⊥
 
--- a shadow that has begun the instruction of a state
-pub record IsFirst (w : World) (r : Run) (q : State) (d : Doing) : Type 0 where
-  pub place : r.shadow.pc ≡ block_at w.image.layout q.pc + 4
-  pub registers : HasRegs r.shadow.registers (regs_of d)
-  pub other : is_restart d ≡ false
+-- it is so
+pub instruction-of : {w : World} {q : State} {d : Doing} → DoesOf w q d → InstructionOf w q d
+instruction-of (instruction i g word has) = (refl, word, has)
+instruction-of (text_end g e) = tt
+instruction-of (restart g word) = (refl, word)
 
 module _ (w : World) (a : Accepted w) where
   abbrev l : Layout
   l = w.image.layout
 
   -- the instruction of a state stands in the text
-  pub instr-stands : (q : State) (i : Instr) → instr_at w.image q ≡ Some i → StandsAt w q i
+  pub instr-stands : (q : State) (i : Instr) → instr_at w.image q ≡ Some i → InstructionStands w q i
   instr-stands q i e = by_test (nat_le l.text_start q.pc && (q.pc % 4 == 0)) refl e
     where
-      by_test : (b : Bool) → (nat_le l.text_start q.pc && (q.pc % 4 == 0)) ≡ b → elim b [ true ↦ slice_get (text_of w.image) ((q.pc - l.text_start) / 4) | false ↦ None ] ≡ Some i → StandsAt w q i
+      by_test : (b : Bool) → (nat_le l.text_start q.pc && (q.pc % 4 == 0)) ≡ b → elim b [ true ↦ slice_get (text_of w.image) ((q.pc - l.text_start) / 4) | false ↦ None ] ≡ Some i → InstructionStands w q i
       by_test true f e =
           let above : l.text_start ≤ q.pc = grind (arith, nat_tests, f) in
           let whole : q.pc % 4 ≡ 0 = grind (arith, nat_tests, f) in
@@ -260,22 +229,12 @@ module _ (w : World) (a : Accepted w) where
       f = text w a
 
       at_instr : (i : Instr) → instr_at w.image q ≡ Some i → HasBlock l q.pc
-      at_instr i e = let s : StandsAt w q i = instr-stands q i e in record { above = s.above; below = omega (arith, s.below); whole = omega (arith, s.whole, f.start) }
+      at_instr i e = let s : InstructionStands w q i = instr-stands q i e in record { above = s.above; below = omega (arith, s.below); whole = omega (arith, s.whole, f.start) }
 
       by_doing : {d : Doing} → DoesOf w q d → HasBlock l q.pc
       by_doing (instruction i g e has) = at_instr i e
       by_doing (text_end g e) = record { above = omega (arith, e, f.some); below = omega (arith, e); whole = omega (arith, e, f.start, f.end) }
       by_doing (restart g e) = at_instr Ecall e
-
-  -- word 1 of the block of an address is an arrival
-  pub first-arrives : (p : ℕ) → HasBlock l p → is_arrival l (block_at l p + 4) ≡ true
-  first-arrives p b =
-      let lower : nat_lt (block_at l p + 4) helpers_start ≡ true = grind (arith, nat_tests, b.above, b.below, (text w a).few) in
-      let upper : nat_le shadow_start (block_at l p + 4) ≡ true = grind (arith, nat_tests) in
-      let last : nat_le (block_at l p + 4) (shadow_start + 16 * (l.text_end - l.text_start) + 4) ≡ true = grind (arith, nat_tests, b.above, b.below) in
-      let whole : (block_at l p + 4) % 64 ≡ 4 = omega (arith, b.whole) in
-      let word : ((block_at l p + 4) % 64 == 4) ≡ true = grind (arith, nat_tests, whole) in
-      and_from _ _ lower (and_from _ _ upper (and_from _ _ last word))
 
   -- ---- behind no call
 
@@ -284,7 +243,7 @@ module _ (w : World) (a : Accepted w) where
   first-call p b = let whole : (block_at l p + 4) % 64 ≡ 4 = omega (arith, b.whole) in off-call w (block_at l p + 4) (grind (arith, nat_tests, whole))
 
   -- nor is a word of an instruction's block, but the one behind a call's HCALL
-  block-call : (q : State) (i : Instr) (n : ℕ) → StandsAt w q i → nat_lt n 16 ≡ true → (is_ecall (Some i) && (n == 7)) ≡ false → is_behind_call w (block_at l q.pc + 4 * n) ≡ false
+  block-call : (q : State) (i : Instr) (n : ℕ) → InstructionStands w q i → nat_lt n 16 ≡ true → (is_ecall (Some i) && (n == 7)) ≡ false → is_behind_call w (block_at l q.pc + 4 * n) ≡ false
   block-call q i n s few seventh = by_test (n == 7) refl seventh
     where
       pc : ℕ
@@ -307,16 +266,11 @@ module _ (w : World) (a : Accepted w) where
 
   -- on the instruction of a state it is behind none
   pub inner-call : (q : State) (d : Doing) (pc : ℕ) → DoesOf w q d → Inner l pc d → is_behind_call w pc ≡ false
-  inner-call q d pc is here = by_place here (on-state is)
+  inner-call q d pc is here = by_place here (instruction-of is)
     where
-      on-state : {d : Doing} → DoesOf w q d → OnState w q d
-      on-state (instruction i g e has) = (refl, instr-stands q i e)
-      on-state (text_end g e) = tt
-      on-state (restart g e) = tt
-
-      by_place : {d : Doing} → Inner l pc d → OnState w q d → is_behind_call w pc ≡ false
-      by_place (in_block {p} {i} n few other seventh e) (same, s) =
-          ap (is_behind_call w) (e ∙ ap (λ (p : ℕ). block_at l p + 4 * n) same) ∙ block-call q i n s few seventh
+      by_place : {d : Doing} → Inner l pc d → InstructionOf w q d → is_behind_call w pc ≡ false
+      by_place (in_block {p} {i} n few other seventh e) (same, word, has) =
+          ap (is_behind_call w) (e ∙ ap (λ (p : ℕ). block_at l p + 4 * n) same) ∙ block-call q i n (instr-stands q i word) few seventh
       by_place (in_helper h) on = helper-call w pc h
       by_place (at_pad e) on = aside-call w pc (inr e)
       by_place (behind_call p to e) on = absurd on
@@ -332,10 +286,22 @@ module _ (w : World) (a : Accepted w) {r : Run} {s : ℕ} {m : Marks} {q : State
       by_spot (first e regs other) = ap (is_behind_call w) e ∙ first-call w a q.pc (doing-block w a q d works.doing)
       by_spot (inner here) = inner-call w a q d r.shadow.pc works.doing here
 
-  -- where it is at an arrival, it has just begun, with these registers
-  pub works-first : is_arrival w.image.layout r.shadow.pc ≡ true → IsFirst w r q d
-  works-first h = by_spot works.spot
+  -- where it is at an arrival, it stands for the state
+  pub works-stands : is_arrival w.image.layout r.shadow.pc ≡ true → Stands w r q
+  works-stands h = by_spot works.spot
     where
-      by_spot : Spot w r q d → IsFirst w r q d
-      by_spot (first e regs other) = record { place = e; registers = regs; other = other }
+      marked : m ≡ marks w r r.since.shadow
+      marked = sym (ap (marks w r) works.count ∙ works.marked)
+
+      by_spot : Spot w r q d → Stands w r q
+      by_spot (first at has running) =
+          record {
+            state = ap (from_restart w r) works.count ∙ works.state;
+            inside = works.inside;
+            place = at;
+            agrees = subst (λ (m : Marks). Agrees m r.shadow.registers q) marked (agrees-shown m r.shadow.registers (regs_of d) q has works.agrees);
+            files = works.files;
+            sees = subst (λ (m : Marks). SeesAlike w.image.layout m (view_in r) q) marked (works.sees running (inr h));
+            copied = subst (AreCopied w r) (sym works.count) works.copied;
+          }
       by_spot (inner here) = false_true (sym (inner-arrival w a (within-whole works.within) here) ∙ h)

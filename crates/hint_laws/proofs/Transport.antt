@@ -1,26 +1,24 @@
 -- What is said of a run whose shadow follows rests on the restart, the filled reads, the counts and hints, the shadow, and what is shared: it is so of each run that has the same.
-use Rattle.std.proofs.Common.{◌≡◌, ℕ, suc, ◌+◌, ◌/◌, ◌<◌, ◌⊎◌, true, false, List, Option, refl, ◌∙◌, ap, ap₂, sym, subst}
+use Rattle.std.proofs.Common.{◌≡◌, ℕ, suc, ◌+◌, ◌/◌, ◌<◌, true, false, List, refl, ◌∙◌, ap, ap₂, sym, subst, zero, Bool, arith}
 use Rattle.std.specs.Prelude.{◌≢◌, if◌then◌else◌}
 use Rattle.spec_base.specs.Listed.{is_listed}
 use Rattle.spec_base.specs.declared.note.ShadowState.TheVariants.{Running}
 use Rattle.rv_model.specs.Memory.{Memory}
 use Rattle.program_model.specs.PlainRun.{State}
 use Rattle.code_model.specs.Regions.{entry_of, shadowed}
-use Rattle.run_model.specs.Run.{World, Run, rewritten_words}
+use Rattle.run_model.specs.Run.{World, Run}
 use Rattle.run_model.specs.ShadowMoves.{is_arrival}
 use Rattle.run_model.specs.Restarts.{from_restart, reads, before_horizon}
 use Rattle.run_model.specs.Marks.{Marks, marks, before_use}
 use Rattle.run_model.specs.HintLaws.{is_behind_call, hinted_up_to}
-use Rattle.rv_model.specs.Space.{program_byte}
-use Rattle.side_model.specs.Hart.{Regs}
 use Rattle.side_model.specs.Tables.{all_regions}
-use Rattle.side_model.specs.Sees.{Shade, shade_of, HasRegs}
+use Rattle.side_model.specs.Sees.{HasRegs}
 use Rattle.mark_laws.specs.Agreement.{Agrees, SeesAlike}
 use Rattle.mark_laws.specs.Settled.{settled_with}
 use Rattle.mark_laws.proofs.Numbers.{alike-same, from_restart-origin, reads-origin, marks_with-alike, settled_with-alike, before_use_with-so_far, before_horizon-so_far}
-use Rattle.hint_laws.proofs.Within.{Doing, goes_to, Within}
+use Rattle.hint_laws.proofs.Within.{Doing}
 use Rattle.hint_laws.proofs.WithinSteps.{Inner}
-use Rattle.hint_laws.proofs.Followed.{known, regs_of, program_in, view_in, AreCopied, FilledUpTo, is_storing, Spot, first, inner, Works, Behind, Strays, Stands, Rests, Followed, works, behind, strays, rests}
+use Rattle.hint_laws.proofs.Followed.{regs_of, view_in, AreCopied, FilledUpTo, Spot, first, inner, Stands, Rests}
 
 -- ---- runs of which the same is said
 
@@ -34,29 +32,6 @@ pub record SameBut (r y : Run) : Type 0 where
   pub files : y.shadow.files ≡ r.shadow.files
   pub shared : y.shared ≡ r.shared
   pub memory : y.own.memory ≡ r.own.memory
-
--- and all of the shadow
-pub record SameRun (r y : Run) : Type 0 where
-  pub origin : y.since.origin ≡ r.since.origin
-  pub filled : y.since.filled ≡ r.since.filled
-  pub count : y.since.shadow ≡ r.since.shadow
-  pub hints : y.since.hints ≡ r.since.hints
-  pub shade : shade_of y ≡ shade_of r
-  pub memory : y.own.memory ≡ r.own.memory
-
--- the second says more than the first
-pub same-but : (r y : Run) → SameRun r y → SameBut r y
-same-but r y e =
-    record {
-      origin = e.origin;
-      filled = e.filled;
-      count = e.count;
-      hints = e.hints;
-      registers = ap (λ (h : Shade). h.hart.registers) e.shade;
-      files = ap (λ (h : Shade). h.hart.files) e.shade;
-      shared = ap (λ (h : Shade). h.shared) e.shade;
-      memory = e.memory;
-    }
 
 -- ---- the run from the restart
 
@@ -77,6 +52,11 @@ module _ (w : World) (r y : Run) (origin : y.since.origin ≡ r.since.origin) (f
   pub same-horizon : before_horizon w y i ≡ before_horizon w r i
   same-horizon = before_horizon-so_far w r y i (alike-same i r y origin filled)
 
+-- a shadow at the same place with the same registers is at the same spot
+pub spot-same : {w : World} {r y : Run} {q : State} {d : Doing} → y.shadow.pc ≡ r.shadow.pc → y.shadow.registers ≡ r.shadow.registers → Spot w r q d → Spot w y q d
+spot-same {w} {d = d} pc registers (first at regs other) = first (pc ∙ at) (subst (λ rs. HasRegs rs (regs_of d)) (sym registers) regs) other
+spot-same {w} {d = d} pc registers (inner here) = inner (subst (λ (pc : ℕ). Inner w.image.layout pc d) (sym pc) here)
+
 -- the settled bytes are copied where each copy stays
 pub copied-kept : (w : World) (r y : Run) → y.since.origin ≡ r.since.origin → y.since.filled ≡ r.since.filled → (i : ℕ)
     → ((region : ℕ) → region < all_regions w.image.layout → 0 < entry_of r.shared region → 0 < entry_of y.shared region) → AreCopied w r i → AreCopied w y i
@@ -92,13 +72,23 @@ filled-same r y e i f k above = ap (λ (numbers : List ℕ). is_listed numbers k
 pub hinted-by : (w : World) (r y : Run) → y.shadow.pc ≡ r.shadow.pc → y.since.shadow ≡ r.since.shadow → hinted_up_to w y ≡ hinted_up_to w r
 hinted-by w r y pc count = ap₂ (λ (pc n : ℕ). if is_behind_call w pc then n + 1 else n) pc count
 
+-- they reach to the shadow's arrivals where it is behind no call
+pub hinted-off : (w : World) (r : Run) → is_behind_call w r.shadow.pc ≡ false → hinted_up_to w r ≡ r.since.shadow
+hinted-off w r h = ap (λ (b : Bool). if b then r.since.shadow + 1 else r.since.shadow) h
+
+-- and one further behind a call
+pub hinted-on : (w : World) (r : Run) → is_behind_call w r.shadow.pc ≡ true → hinted_up_to w r ≡ suc r.since.shadow
+hinted-on w r h = ap (λ (b : Bool). if b then r.since.shadow + 1 else r.since.shadow) h ∙ omega arith
+
+-- the first instruction gives no hint
+pub no-reads : (w : World) (r y : Run) (i : ℕ) → i ≡ 0 → reads w r i ≡ reads w y (suc i)
+unfolding reads
+no-reads w r y zero e = refl
+no-reads w r y (suc i) e = absurd (omega (arith, e))
+
 -- ---- each way
 
 module _ (w : World) (r y : Run) (e : SameBut r y) where
-  -- what the program range has
-  pub same-program : program_in w y ≡ program_in w r
-  same-program = ap (λ (m : Memory). program_byte w.image.layout (rewritten_words w) m) e.memory
-
   -- what the shadow has in place of the program's memory
   pub same-view : view_in y ≡ view_in r
   same-view = ap₂ shadowed e.shared e.memory
@@ -144,79 +134,3 @@ module _ (w : World) (r y : Run) (e : SameBut r y) where
           horizon = λ h. same-hints (hinted_up_to w r) (hinted_up_to w y) is (s.horizon (sym (same-horizon w r y e.origin e.filled r.since.shadow) ∙ ap (before_horizon w y) (sym e.count) ∙ h));
           stands = λ h. let f : (q : State) × Stands w r q = s.stands (ap (is_arrival w.image.layout) (sym pc) ∙ h) in (f.0, stands-same f.0 f.1);
         }
-
-module _ (w : World) (r y : Run) (e : SameRun r y) where
-  but : SameBut r y
-  but = same-but r y e
-
-  pc : y.shadow.pc ≡ r.shadow.pc
-  pc = ap (λ (h : Shade). h.hart.pc) e.shade
-
-  -- a shadow on an instruction
-  pub works-same : {s : ℕ} {m : Marks} {q : State} {program : Memory} {d : Doing} {n : ℕ} → Works w r s m q program d n → Works w y s m q program d n
-  works-same {s} {m} {q} {program} {d} {n} x =
-      record {
-        count = e.count ∙ x.count;
-        marked = same-marks w r y e.origin e.filled s ∙ x.marked;
-        program_is = same-program w r y but ∙ x.program_is;
-        state = from_restart-origin w r y e.origin s ∙ x.state;
-        goes_on = x.goes_on;
-        inside = x.inside;
-        doing = x.doing;
-        within = subst (λ (h : Shade). Within w (known w.image.layout m q) program d h n) (sym e.shade) x.within;
-        spot = by_spot x.spot;
-        agrees = x.agrees;
-        files = but.files ∙ x.files;
-        sees = λ other safe. subst (λ (v : Memory). SeesAlike w.image.layout m v q) (sym (same-view w r y but)) (x.sees other (subst (λ (pc : ℕ). (is_storing d ≡ false) ⊎ (is_arrival w.image.layout pc ≡ true)) pc safe));
-        later = x.later;
-        anew = λ is. let f = x.anew is in (f.0, e.memory ∙ f.1);
-        copied = same-copied w r y but s x.copied;
-        filled = filled-same r y e.filled s x.filled;
-        hints = same-hints w r y but s s refl x.hints;
-      }
-    where
-      by_spot : Spot w r q d → Spot w y q d
-      by_spot (first at regs other) = first (pc ∙ at) (subst (λ rs. HasRegs rs (regs_of d)) (sym but.registers) regs) other
-      by_spot (inner here) = inner (subst (λ (pc : ℕ). Inner w.image.layout pc d) (sym pc) here)
-
-  -- behind a call
-  pub behind-same : {s : ℕ} {m : Marks} {q : State} {to : ℕ} {g : Regs} {program : Memory} {n : ℕ} → Behind w r s m q to g program n → Behind w y s m q to g program n
-  behind-same {s} {m} {q} {to} {g} {program} {n} x =
-      record {
-        count = e.count ∙ x.count;
-        marked = same-marks w r y e.origin e.filled (suc s) ∙ x.marked;
-        program_is = same-program w r y but ∙ x.program_is;
-        state = from_restart-origin w r y e.origin (suc s) ∙ x.state;
-        goes_on = x.goes_on;
-        target = x.target;
-        within = subst (λ (h : Shade). Within w (known w.image.layout m q) program (goes_to to g) h n) (sym e.shade) x.within;
-        place = subst (λ (pc : ℕ). Inner w.image.layout pc (goes_to to g)) (sym pc) x.place;
-        turn = subst (λ (pc : ℕ). (is_behind_call w pc ≡ true) ⊎ ((is_behind_call w pc ≡ false) × (s ≡ 0))) (sym pc) x.turn;
-        agrees = x.agrees;
-        files = but.files ∙ x.files;
-        sees = subst (λ (v : Memory). SeesAlike w.image.layout m v q) (sym (same-view w r y but)) x.sees;
-        copied = same-copied w r y but (suc s) x.copied;
-        filled = filled-same r y e.filled (suc s) x.filled;
-        hints = same-hints w r y but (suc s) (suc s) refl x.hints;
-        unused = same-use w r y e.origin e.filled (suc s) ∙ x.unused;
-      }
-
-  -- behind a call that is a use
-  pub strays-same : {s : ℕ} {bytes : ℕ → Option ℕ} {program : Memory} {to : ℕ} {g : Regs} {n : ℕ} → Strays w r s bytes program to g n → Strays w y s bytes program to g n
-  strays-same {s} {bytes} {program} {to} {g} {n} x =
-      record {
-        count = e.count ∙ x.count;
-        used = same-use w r y e.origin e.filled (suc s) ∙ x.used;
-        program_is = same-program w r y but ∙ x.program_is;
-        within = subst (λ (h : Shade). Within w bytes program (goes_to to g) h n) (sym e.shade) x.within;
-        place = subst (λ (pc : ℕ). Inner w.image.layout pc (goes_to to g)) (sym pc) x.place;
-        behind = ap (is_behind_call w) pc ∙ x.behind;
-        hints = λ h. same-hints w r y but (suc s) (suc s) refl (x.hints (sym (same-horizon w r y e.origin e.filled s) ∙ h));
-      }
-
-  -- in any of these ways
-  pub followed-same : Followed w r → Followed w y
-  followed-same (works s m q program d n x) = works s m q program d n (works-same x)
-  followed-same (behind s m q to g program n x) = behind s m q to g program n (behind-same x)
-  followed-same (strays s bytes program to g n x) = strays s bytes program to g n (strays-same x)
-  followed-same (rests x) = rests (rests-same w r y but pc (subst (λ (h : Shade). h.hart.state ≢ Running) (sym e.shade) x.still) x)

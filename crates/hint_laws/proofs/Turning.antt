@@ -1,15 +1,14 @@
 -- A shadow that follows the program goes on following it where it performs an HCALL, of a call's block or of RESTART.
-use Rattle.std.proofs.Common.{◌≡◌, ℕ, zero, suc, ◌+◌, ◌-◌, ◌*◌, ◌/◌, ◌%◌, ◌<◌, ◌≤◌, ◌⊎◌, inl, inr, Bool, true, false, not, ◌&&◌, ◌==◌, nat_le, nat_lt, length, slice_get, Option, Some, None, refl, ◌∙◌, ap, sym, subst, arith}
-use Rattle.std.specs.Prelude.{⊤, ◌≢◌, IsTrue}
+use Rattle.std.proofs.Common.{◌≡◌, ℕ, zero, suc, ◌+◌, ◌-◌, ◌*◌, ◌/◌, ◌%◌, ◌<◌, ◌≤◌, ◌⊎◌, inl, inr, Bool, true, false, not, ◌==◌, nat_le, nat_lt, slice_get, Option, Some, refl, ◌∙◌, ap, sym, subst, arith}
+use Rattle.std.specs.Prelude.{◌≢◌, IsTrue}
 use Rattle.std.proofs.lemmas.Bool.Decides.{nat_tests}
-use Rattle.std.proofs.lemmas.List.{length-map}
-use Rattle.std.proofs.lemmas.Option.{slice_get_within}
+use Rattle.std.proofs.lemmas.Bool.{and_from}
 use Rattle.spec_base.specs.Layout.{shadow_start, helpers_start}
 use Rattle.spec_base.specs.declared.layout.Layout.{Layout}
 use Rattle.spec_base.specs.declared.note.ShadowState.TheVariants.{Running}
-use Rattle.rv_decode.specs.Instruction.{instr_of}
 use Rattle.rv_decode.specs.declared.instr.Instr.{Instr}
-use Rattle.rv_decode.specs.declared.instr.Instr.TheVariants.{Ecall}
+use Rattle.rv_decode.specs.declared.instr.Instr.TheVariants.{Ecall, Hcall}
+use Rattle.rv_decode.specs.Encoding.{HasRegisters}
 use Rattle.rv_model.specs.Memory.{Memory, any_from}
 use Rattle.rv_model.specs.Registers.{reg}
 use Rattle.rv_model.specs.Effect.{after}
@@ -17,60 +16,32 @@ use Rattle.program_model.specs.PlainRun.{State, text_of}
 use Rattle.code_model.specs.Places.{block_at, FAULT}
 use Rattle.code_model.specs.Regions.{shadowed, byte_by_entry, entry_of}
 use Rattle.run_model.specs.Run.{World, Run, Answer}
-use Rattle.run_model.specs.ShadowMoves.{shadow_step, is_arrival, shadow_plan}
+use Rattle.run_model.specs.ShadowMoves.{shadow_step, is_arrival, shadow_plan, fetch_shadow}
 use Rattle.run_model.specs.OwnLaws.{Accepted}
 use Rattle.run_model.specs.Restarts.{Action, TakesName, from_restart, instr_at, call_action, nothing, reads}
 use Rattle.run_model.specs.Marks.{Marks, no_marks, marks, marks_with, name_is_marked, is_use, some_use, before_use, before_use_with}
 use Rattle.run_model.specs.HintLaws.{is_ecall, is_behind_call}
-use Rattle.own_laws.proofs.Reached.{none_some}
 use Rattle.side_model.specs.Hart.{Regs, get, put}
 use Rattle.side_model.specs.Sees.{shade_of}
 use Rattle.side_model.specs.Tables.{Tabs, HasTabs, all_regions}
-use Rattle.side_model.proofs.Numbers.{TextFits, text-fits}
 use Rattle.rows_log.specs.RestartRows.{IsFresh}
 use Rattle.rows_log.proofs.PlannedReads.{data-region}
+use Rattle.shadow_laws.proofs.TextBlocks.{text}
 use Rattle.mark_laws.specs.Agreement.{SeesAlike}
 use Rattle.mark_laws.specs.Sizes.{TrueSizes}
-use Rattle.hint_laws.proofs.Within.{Doing, does, ends, restarts, goes_to, Within}
+use Rattle.hint_laws.proofs.Within.{Doing, goes_to, Within, within-stands, within-running}
 use Rattle.hint_laws.proofs.WithinSteps.{Inner, Turns, asks, asks_again}
-use Rattle.hint_laws.proofs.WithinFacts.{within-stands, recast, within-answer, IsEarly, within-early}
-use Rattle.hint_laws.proofs.Followed.{known, view_in, program_in, DoesOf, instruction, text_end, restart, Works, Followed, behind, strays}
+use Rattle.hint_laws.proofs.WithinFacts.{recast, within-answer, IsEarly, within-early}
+use Rattle.hint_laws.proofs.Followed.{known, view_in, program_in, Works, Followed, behind, strays, regs_of}
 use Rattle.hint_laws.proofs.CallTurns.{AtCall, call-leaves, call-use, call-agrees, call-state, call-files, call-sees, call-registers, call-copied, call-filled, call-unused, call-hinted, call-unhinted, call-does, stray-hints}
+use Rattle.hint_laws.proofs.Spots.{InstructionStands, instr-stands, instruction-of}
+use Rattle.hint_laws.proofs.ParkPlaces.{off-arrival, helper-arrival, helper-call}
 
 -- ---- the call's place
-
--- where the call of a state stands in the text
-record CallSite (w : World) (q : State) : Type 0 where
-  above : w.image.layout.text_start ≤ q.pc
-  below : q.pc < w.image.layout.text_end
-  whole : (q.pc - w.image.layout.text_start) % 4 ≡ 0
-  found : slice_get (text_of w.image) ((q.pc - w.image.layout.text_start) / 4) ≡ Some Ecall
 
 module _ (w : World) (accepted : Accepted w) where
   abbrev l : Layout
   l = w.image.layout
-
-  -- what is so of the text
-  text : TextFits l
-  text = text-fits l accepted.lawful
-
-  -- a state's call stands there
-  call-site : (q : State) → instr_at w.image q ≡ Some Ecall → CallSite w q
-  call-site q = by_test (nat_le l.text_start q.pc && (q.pc % 4 == 0)) refl
-    where
-      by_test : (b : Bool) → (nat_le l.text_start q.pc && (q.pc % 4 == 0)) ≡ b → elim b [ true ↦ slice_get (text_of w.image) ((q.pc - l.text_start) / 4) | false ↦ None ] ≡ Some Ecall → CallSite w q
-      by_test true f e =
-          let above : l.text_start ≤ q.pc = grind (arith, nat_tests, f) in
-          let aligned : q.pc % 4 ≡ 0 = grind (arith, nat_tests, f) in
-          let few : (q.pc - l.text_start) / 4 < length (text_of w.image) = slice_get_within (text_of w.image) ((q.pc - l.text_start) / 4) Ecall e in
-          let count : length (text_of w.image) ≡ length w.image.words = length-map w.image.words instr_of in
-          record {
-            above = above;
-            below = omega (arith, few, count, accepted.text, above, aligned, text.start);
-            whole = omega (arith, aligned, text.start, above);
-            found = e;
-          }
-      by_test false f e = none_some e
 
   -- what is so of the word behind the HCALL of a call's block
   record BehindSite (pc : ℕ) : Type 0 where
@@ -79,32 +50,24 @@ module _ (w : World) (accepted : Accepted w) where
     away : pc ≡ helpers_start + FAULT → ⊥
 
   -- it is word 7 of the block
-  behind-site : (q : State) → CallSite w q → (pc : ℕ) → pc ≡ block_at l q.pc + 24 → BehindSite (after pc)
+  behind-site : (q : State) → InstructionStands w q Ecall → (pc : ℕ) → pc ≡ block_at l q.pc + 24 → BehindSite (after pc)
   behind-site q c pc e =
       let k : ℕ = q.pc - l.text_start in
-      let few : k < 1_048_576 = omega (arith, c.above, c.below, text.few) in
+      let whole : k % 4 ≡ 0 = omega (arith, c.whole, c.above, (text w accepted).start) in
+      let few : k < 1_048_576 = omega (arith, c.above, c.below, (text w accepted).few) in
       let is : after pc ≡ shadow_start + 16 * k + 28 = omega (arith, e, few) in
       let low : nat_le shadow_start (after pc) ≡ true = grind (arith, nat_tests, is) in
       let high : nat_lt (after pc) helpers_start ≡ true = grind (arith, nat_tests, is, few) in
-      let seventh : after pc % 64 ≡ 28 = omega (arith, is, c.whole) in
+      let seventh : after pc % 64 ≡ 28 = omega (arith, is, whole) in
       let test : (after pc % 64 == 28) ≡ true = grind (arith, nat_tests, seventh) in
       let first : (after pc % 64 == 4) ≡ false = grind (arith, nat_tests, seventh) in
-      let index : (after pc - shadow_start) / 64 ≡ k / 4 = omega (arith, is, c.whole) in
-      let word : is_ecall (slice_get (text_of w.image) ((after pc - shadow_start) / 64)) ≡ true = ap (λ (n : ℕ). is_ecall (slice_get (text_of w.image) n)) index ∙ ap is_ecall c.found in
+      let index : (after pc - shadow_start) / 64 ≡ k / 4 = omega (arith, is, whole) in
+      let word : is_ecall (slice_get (text_of w.image) ((after pc - shadow_start) / 64)) ≡ true = ap (λ (n : ℕ). is_ecall (slice_get (text_of w.image) n)) index ∙ ap is_ecall c.word in
       record {
-        call = all (nat_le shadow_start (after pc)) (nat_lt (after pc) helpers_start) (after pc % 64 == 28) (is_ecall (slice_get (text_of w.image) ((after pc - shadow_start) / 64))) low high test word;
-        no_arrival = none (nat_lt (after pc) helpers_start) (nat_le shadow_start (after pc)) (nat_le (after pc) (shadow_start + 16 * (l.text_end - l.text_start) + 4)) (after pc % 64 == 4) first;
+        call = and_from _ _ low (and_from _ _ high (and_from _ _ test word));
+        no_arrival = off-arrival l (after pc) first;
         away = λ f. absurd (omega (arith, f, is, few));
       }
-    where
-      all : (b c d e : Bool) → b ≡ true → c ≡ true → d ≡ true → e ≡ true → (b && (c && (d && e))) ≡ true
-      all b c d e f g h i = (λ j. f j && (g j && (h j && i j)))
-
-      none : (b c d e : Bool) → e ≡ false → (b && (c && (d && e))) ≡ false
-      none true true true e h = h
-      none true true false e h = refl
-      none true false d e h = refl
-      none false c d e h = refl
 
   -- what is so of the word behind RESTART's
   record BehindRestart (pc : ℕ) : Type 0 where
@@ -116,38 +79,14 @@ module _ (w : World) (accepted : Accepted w) where
   behind-restart : (pc : ℕ) → IsEarly pc → BehindRestart (after pc)
   behind-restart pc c =
       let is : after pc ≡ pc + 4 = omega (arith, c.below) in
-      let high : nat_lt (after pc) helpers_start ≡ false = grind (arith, nat_tests, is, c.above) in
-      record {
-        no_call = second (nat_le shadow_start (after pc)) _ _ high;
-        no_arrival = first (nat_lt (after pc) helpers_start) _ high;
-        away = λ f. absurd (omega (arith, f, is, c.below));
-      }
-    where
-      first : (b c : Bool) → b ≡ false → (b && c) ≡ false
-      first b c h = ap (λ (d : Bool). d && c) h
-
-      second : (b c d : Bool) → c ≡ false → (b && (c && d)) ≡ false
-      second true c d h = ap (λ (b : Bool). b && d) h
-      second false c d h = refl
+      let high : nat_le helpers_start (after pc) ≡ true = grind (arith, nat_tests, is, c.above) in
+      record { no_call = helper-call w (after pc) high; no_arrival = helper-arrival l (after pc) high; away = λ f. absurd (omega (arith, f, is, c.below)) }
 
   -- the next instruction
-  next-address : (q : State) → CallSite w q → after q.pc ≡ q.pc + 4
-  next-address q c = omega (arith, c.below, text.below)
+  next-address : (q : State) → InstructionStands w q Ecall → after q.pc ≡ q.pc + 4
+  next-address q c = omega (arith, c.below, (text w accepted).below)
 
 -- ---- what is done there
-
--- the call that a doing is of
-abbrev IsCall : World → State → Doing → Type 0
-IsCall w q (does p i g) = (p ≡ q.pc) × (instr_at w.image q ≡ Some i)
-IsCall w q (restarts site g) = (site ≡ q.pc) × (instr_at w.image q ≡ Some Ecall)
-IsCall w q (ends g) = ⊤
-IsCall w q (goes_to to g) = ⊤
-
--- a doing of a state is of its instruction
-is-call : {w : World} {q : State} {d : Doing} → DoesOf w q d → IsCall w q d
-is-call (instruction i g word numbers) = (refl, word)
-is-call (text_end g end) = tt
-is-call (restart g word) = (refl, word)
 
 -- another register behind a write to x10
 put-others : (answer : ℕ) (g : Regs) (i : ℕ) → i ≢ 10 → get i (put 10 answer g) ≡ get i g
@@ -224,7 +163,7 @@ module _ (w : World) (accepted : Accepted w) (x : Answer) (r : Run) (sizes : (q 
           program_is = program-is;
           state = call-state w accepted x r s m q g u c runs unused true-sizes;
           goes_on = agrees.leads.goes_on;
-          target = agrees.leads.pc ∙ (next-address w accepted q (call-site w accepted q c.word) ∙ sym is_next);
+          target = agrees.leads.pc ∙ (next-address w accepted q (instr-stands w accepted q Ecall c.word) ∙ sym is_next);
           within = recast w bytes (known w.image.layout (marks w next (suc s)) agrees.leads.state) (program_in w r) within;
           place = place;
           turn = turn;
@@ -251,31 +190,36 @@ module _ (w : World) (accepted : Accepted w) (x : Answer) (r : Run) (sizes : (q 
           hints = λ before. stray-hints w accepted x r s m q g u c runs used before later hints;
         })
 
-  -- an HCALL keeps a shadow that follows the program following it
-  pub turned : {s : ℕ} {m : Marks} {q : State} {program : Memory} {d : Doing} {n : ℕ} → Works w r s m q program d n → (to : ℕ) (new : Regs) → Turns w r to new d
-      → {bytes : ℕ → Option ℕ} {k : ℕ} → Within w bytes (program_in w r) (goes_to to new) (shade_of next) k → Inner w.image.layout next.shadow.pc (goes_to to new) → Followed w next
-  turned {s} {m} {q} works to new (asks {p = p} {q = g} answer fetches at has is_next is_new) {bytes} {k} within place =
-      let runs : next.shadow.state ≡ Running = let stands = within-stands w within in stands.running in
-      let is : (p ≡ q.pc) × (instr_at w.image q ≡ Some Ecall) = is-call works.doing in
-      let c : AtCall w r s m q g false =
+  -- a shadow that works on a call, at its HCALL
+  at-call : {s : ℕ} {m : Marks} {q : State} {program : Memory} {d : Doing} {n : ℕ} {u : Bool} → Works w r s m q program d n → instr_at w.image q ≡ Some Ecall → ((i : ℕ) → i ≤ 30 → reg r.shadow.registers i ≡ get i (regs_of d))
+      → SeesAlike w.image.layout m (view_in r) q → fetch_shadow w r.shadow.pc ≡ Some (Hcall u) → AtCall w r s m q (regs_of d) u
+  at-call works word has sees fetches =
       record {
         count = works.count;
         marked = works.marked;
         state = works.state;
         goes_on = works.goes_on;
-        word = is.1;
+        word = word;
         agrees = works.agrees;
-        has = λ i below. has.at i;
+        has = has;
         files = works.files;
-        sees = works.sees refl (inl refl);
+        sees = sees;
         copied = works.copied;
         filled = works.filled;
         fetches = fetches;
-        stands = within-stands w works.within;
-      } in
+        stands = within-stands works.within;
+      }
+
+  -- an HCALL keeps a shadow that follows the program following it
+  pub turned : {s : ℕ} {m : Marks} {q : State} {program : Memory} {d : Doing} {n : ℕ} → Works w r s m q program d n → (to : ℕ) (new : Regs) → Turns w r to new d
+      → {bytes : ℕ → Option ℕ} {k : ℕ} → Within w bytes (program_in w r) (goes_to to new) (shade_of next) k → Inner w.image.layout next.shadow.pc (goes_to to new) → Followed w next
+  turned {s} {m} {q} works to new (asks {p = p} {q = g} answer fetches at has is_next is_new) {bytes} {k} within place =
+      let runs : next.shadow.state ≡ Running = within-running within in
+      let is : (p ≡ q.pc) × (instr_at w.image q ≡ Some Ecall) × HasRegisters Ecall = instruction-of works.doing in
+      let c : AtCall w r s m q g false = at-call works is.1 (λ i below. has.at i) (works.sees refl (inl refl)) fetches in
       let does = call-does w accepted x r s m q g false c runs (shadow_plan w r) refl in
       let site : BehindSite w accepted next.shadow.pc =
-      subst (BehindSite w accepted) (sym does.pc) (behind-site w accepted q (call-site w accepted q is.1) r.shadow.pc (at ∙ ap (λ (b : ℕ). block_at w.image.layout b + 24) is.0)) in
+      subst (BehindSite w accepted) (sym does.pc) (behind-site w accepted q (instr-stands w accepted q Ecall is.1) r.shadow.pc (at ∙ ap (λ (b : ℕ). block_at w.image.layout b + 24) is.0)) in
       let target : to ≡ q.pc + 4 = is_next ∙ ap (λ (b : ℕ). b + 4) is.0 in
       let answered : get 10 new ≡ reg next.shadow.registers 10 = within-answer w bytes (program_in w r) site.away within in
       let others : (i : ℕ) → i ≤ 31 → i ≢ 10 → get i new ≡ get i g = λ i below d. ap (get i) is_new ∙ put-others answer g i d in
@@ -286,25 +230,10 @@ module _ (w : World) (accepted : Accepted w) (x : Answer) (r : Run) (sizes : (q 
       goes-on c runs to new target within place site.no_arrival (inl site.call) answered others hints unused)
       (λ used. goes-astray c runs to new target within place site.no_arrival site.call refl (works.later refl) works.hints used)
   turned {s} {m} {q} works to new (asks_again {site = site} {q = g} answer rs t fetches has loaded tabs fresh is_next is_answered) {bytes} {k} within place =
-      let runs : next.shadow.state ≡ Running = let stands = within-stands w within in stands.running in
-      let is : (site ≡ q.pc) × (instr_at w.image q ≡ Some Ecall) = is-call works.doing in
+      let runs : next.shadow.state ≡ Running = within-running within in
+      let is : (site ≡ q.pc) × (instr_at w.image q ≡ Some Ecall) = instruction-of works.doing in
       let anew : (s ≡ 0) × (r.own.memory ≡ q.memory) = works.anew refl in
-      let c : AtCall w r s m q g true =
-      record {
-        count = works.count;
-        marked = works.marked;
-        state = works.state;
-        goes_on = works.goes_on;
-        word = is.1;
-        agrees = works.agrees;
-        has = λ i below. has.at i ∙ loaded i below;
-        files = works.files;
-        sees = fresh-sees w r m q t tabs fresh anew.1;
-        copied = works.copied;
-        filled = works.filled;
-        fetches = fetches;
-        stands = within-stands w works.within;
-      } in
+      let c : AtCall w r s m q g true = at-call works is.1 (λ i below. has.at i ∙ loaded i below) (fresh-sees w r m q t tabs fresh anew.1) fetches in
       let does = call-does w accepted x r s m q g true c runs (shadow_plan w r) refl in
       let from : IsEarly r.shadow.pc = within-early w (known w.image.layout m q) _ works.within in
       let behind : BehindRestart w accepted next.shadow.pc = subst (BehindRestart w accepted) (sym does.pc) (behind-restart w accepted r.shadow.pc from) in

@@ -5,7 +5,6 @@ use Rattle.std.proofs.lemmas.Bool.Decides.{nat_tests}
 use Rattle.spec_base.specs.Word.{byte_of}
 use Rattle.spec_base.specs.Layout.{range_start, range_end}
 use Rattle.spec_base.specs.declared.layout.Layout.{Layout}
-use Rattle.spec_base.specs.declared.machine.Trap.{Trap}
 use Rattle.spec_base.specs.declared.machine.View.TheVariants.{Plain}
 use Rattle.rv_decode.specs.declared.instr.Instr.{Instr}
 use Rattle.rv_decode.specs.declared.instr.Instr.TheVariants.{Lui, Auipc, Jal, Jalr, Branch, Load, Store, OpImm, OpImmW, Op, OpW, Fence, Ecall, Ebreak, Hgate, Hleave, Hsite, Hkey, Hstop, Hrestart, Hcall, Hpark, Illegal}
@@ -15,20 +14,21 @@ use Rattle.rv_model.specs.Memory.{Memory, is_within, patched, stored, loaded, al
 use Rattle.rv_model.specs.Registers.{Registers, reg}
 use Rattle.rv_model.specs.Rights.{Rights, is_data, in_range, in_text}
 use Rattle.rv_model.specs.Arithmetic.{load_width}
-use Rattle.rv_model.specs.Effect.{Next, Stored, Trapped, Called, effect, load_if, store_if}
+use Rattle.rv_model.specs.Effect.{Next, effect, load_if}
 use Rattle.rv_model.specs.Space.{program_byte, text_byte}
 use Rattle.program_model.specs.PlainRun.{State}
 use Rattle.code_model.specs.Regions.{shadowed, byte_by_entry}
 use Rattle.run_model.specs.Restarts.{Other, instr_action, nothing}
 use Rattle.run_model.specs.Marks.{Marks, mark_bytes}
+use Rattle.own_laws.proofs.Reached.{false_true}
 use Rattle.side_model.specs.Hart.{Regs, get}
 use Rattle.side_model.specs.Sees.{HasRegs}
 use Rattle.side_model.specs.Tables.{Tabs, HasTabs}
 use Rattle.rows_access.specs.Accesses.{Allows, seen}
 use Rattle.rows_access.specs.StoreRows.{with_stored}
 use Rattle.rows_access.proofs.AccessPlaces.{seen-shadowed}
-use Rattle.own_laws.proofs.Reached.{false_true}
 use Rattle.mark_laws.specs.Agreement.{Agrees, SeesAlike, is_load}
+use Rattle.mark_laws.proofs.OneInstruction.{traps_on, calls_on, stores_on}
 use Rattle.hint_laws.proofs.Within.{joined, known_from, AreSeen, does}
 use Rattle.hint_laws.proofs.Followed.{known_if, known, registers, is_storing}
 
@@ -126,6 +126,14 @@ agrees-as m rs g q has h = record { registers = λ i above below u. at i above b
     at zero above below u = absurd (omega (arith, above))
     at (suc i) above below u = sym (has.at (suc i)) ∙ h.registers (suc i) above below u
 
+-- and the hart's where the row's do
+pub agrees-shown : (m : Marks) (rs : Registers) (g : Regs) (q : State) → HasRegs rs g → Agrees m (registers g) q → Agrees m rs q
+agrees-shown m rs g q has agrees = record { registers = λ i some few free. by_number i some few free }
+  where
+    by_number : (i : ℕ) → 0 < i → i < 32 → m.registers i ≡ false → rs i ≡ q.registers i
+    by_number zero some few free = absurd (omega (arith, some))
+    by_number (suc i) some few free = has.at (suc i) ∙ agrees.registers (suc i) some few free
+
 -- ---- instructions that go on without the memory
 
 -- no address may be accessed
@@ -138,48 +146,23 @@ pub record IsFlow (l : Layout) (q : State) (i : Instr) : Type 0 where
   pub no_load : is_load i ≡ false
   pub no_store : (p : ℕ) (g : Regs) → is_storing (does p i g) ≡ false
 
--- an effect that goes on is no trap and no call
-trapped_next : {A : Type 0} {cause : Trap} {rs : Registers} {pc : ℕ} → Trapped cause ≡ Next rs pc → A
-trapped_next {A} e = absurd (no e)
-  where
-    no : {cause : Trap} {rs : Registers} {pc : ℕ} → Trapped cause ≡ Next rs pc → ⊥
-    no e = cc
-
-called_next : {A : Type 0} {rs : Registers} {pc : ℕ} → Called ≡ Next rs pc → A
-called_next {A} e = absurd (no e)
-  where
-    no : {rs : Registers} {pc : ℕ} → Called ≡ Next rs pc → ⊥
-    no e = cc
-
-stored_next : {A : Type 0} {a width v : ℕ} {rs : Registers} {pc : ℕ} → Stored a width v ≡ Next rs pc → A
-stored_next {A} e = absurd (no e)
-  where
-    no : {a width v : ℕ} {rs : Registers} {pc : ℕ} → Stored a width v ≡ Next rs pc → ⊥
-    no e = cc
-
 -- a load without rights traps
 load-traps : {A : Type 0} (a pc rd : ℕ) (op : LoadOp) (m : Memory) (was new : Registers) (target : ℕ) (b : Bool) → load_if b (all_from nothing a (load_width op)) m op was pc rd a ≡ Next new target → A
 unfolding all_from
-load-traps a pc rd Lb m was new target false e = trapped_next e
-load-traps a pc rd Lh m was new target false e = trapped_next e
-load-traps a pc rd Lw m was new target false e = trapped_next e
-load-traps a pc rd Ld m was new target false e = trapped_next e
-load-traps a pc rd Lbu m was new target false e = trapped_next e
-load-traps a pc rd Lhu m was new target false e = trapped_next e
-load-traps a pc rd Lwu m was new target false e = trapped_next e
-load-traps a pc rd Lb m was new target true e = trapped_next e
-load-traps a pc rd Lh m was new target true e = trapped_next e
-load-traps a pc rd Lw m was new target true e = trapped_next e
-load-traps a pc rd Ld m was new target true e = trapped_next e
-load-traps a pc rd Lbu m was new target true e = trapped_next e
-load-traps a pc rd Lhu m was new target true e = trapped_next e
-load-traps a pc rd Lwu m was new target true e = trapped_next e
-
--- a store doesn't go on by itself
-store-other : {A : Type 0} (a width v : ℕ) (new : Registers) (target : ℕ) (b c : Bool) → store_if b c a width v ≡ Next new target → A
-store-other a width v new target false c e = trapped_next e
-store-other a width v new target true false e = trapped_next e
-store-other a width v new target true true e = stored_next e
+load-traps a pc rd Lb m was new target false e = traps_on e
+load-traps a pc rd Lh m was new target false e = traps_on e
+load-traps a pc rd Lw m was new target false e = traps_on e
+load-traps a pc rd Ld m was new target false e = traps_on e
+load-traps a pc rd Lbu m was new target false e = traps_on e
+load-traps a pc rd Lhu m was new target false e = traps_on e
+load-traps a pc rd Lwu m was new target false e = traps_on e
+load-traps a pc rd Lb m was new target true e = traps_on e
+load-traps a pc rd Lh m was new target true e = traps_on e
+load-traps a pc rd Lw m was new target true e = traps_on e
+load-traps a pc rd Ld m was new target true e = traps_on e
+load-traps a pc rd Lbu m was new target true e = traps_on e
+load-traps a pc rd Lhu m was new target true e = traps_on e
+load-traps a pc rd Lwu m was new target true e = traps_on e
 
 -- what goes on without rights
 pub flow-is : (l : Layout) (q : State) (i : Instr) (m : Memory) (was new : Registers) (pc target : ℕ) → effect Plain no_rights m was pc i ≡ Next new target → IsFlow l q i
@@ -189,20 +172,20 @@ flow-is l q (Jal rd imm) m was new pc target e = record { other = refl; no_load 
 flow-is l q (Jalr rd rs1 imm) m was new pc target e = record { other = refl; no_load = refl; no_store = λ p g. refl }
 flow-is l q (Branch op rs1 rs2 imm) m was new pc target e = record { other = refl; no_load = refl; no_store = λ p g. refl }
 flow-is l q (Load op rd rs1 imm) m was new pc target e = load-traps _ pc rd op m was new target _ e
-flow-is l q (Store op rs1 rs2 imm) m was new pc target e = store-other _ _ _ new target _ _ e
+flow-is l q (Store op rs1 rs2 imm) m was new pc target e = stores_on _ _ _ _ _ e
 flow-is l q (OpImm op rd rs1 imm) m was new pc target e = record { other = refl; no_load = refl; no_store = λ p g. refl }
 flow-is l q (OpImmW op rd rs1 imm) m was new pc target e = record { other = refl; no_load = refl; no_store = λ p g. refl }
 flow-is l q (Op op rd rs1 rs2) m was new pc target e = record { other = refl; no_load = refl; no_store = λ p g. refl }
 flow-is l q (OpW op rd rs1 rs2) m was new pc target e = record { other = refl; no_load = refl; no_store = λ p g. refl }
 flow-is l q (Fence number) m was new pc target e = record { other = refl; no_load = refl; no_store = λ p g. refl }
-flow-is l q Ecall m was new pc target e = called_next e
-flow-is l q Ebreak m was new pc target e = trapped_next e
-flow-is l q Hgate m was new pc target e = trapped_next e
-flow-is l q Hleave m was new pc target e = trapped_next e
-flow-is l q (Hsite rd) m was new pc target e = trapped_next e
-flow-is l q (Hkey rd) m was new pc target e = trapped_next e
-flow-is l q Hstop m was new pc target e = trapped_next e
-flow-is l q Hrestart m was new pc target e = trapped_next e
-flow-is l q (Hcall unhinted) m was new pc target e = trapped_next e
-flow-is l q (Hpark cause) m was new pc target e = trapped_next e
-flow-is l q Illegal m was new pc target e = trapped_next e
+flow-is l q Ecall m was new pc target e = calls_on e
+flow-is l q Ebreak m was new pc target e = traps_on e
+flow-is l q Hgate m was new pc target e = traps_on e
+flow-is l q Hleave m was new pc target e = traps_on e
+flow-is l q (Hsite rd) m was new pc target e = traps_on e
+flow-is l q (Hkey rd) m was new pc target e = traps_on e
+flow-is l q Hstop m was new pc target e = traps_on e
+flow-is l q Hrestart m was new pc target e = traps_on e
+flow-is l q (Hcall unhinted) m was new pc target e = traps_on e
+flow-is l q (Hpark cause) m was new pc target e = traps_on e
+flow-is l q Illegal m was new pc target e = traps_on e

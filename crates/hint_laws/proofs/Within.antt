@@ -2,6 +2,7 @@
 use Rattle.std.proofs.Common.{◌≡◌, ℕ, zero, suc, ◌+◌, ◌*◌, ◌≤◌, ◌⊎◌, inl, inr, false, ℤ, List, slice_get, Option, Some, None, refl, ◌∙◌, sym, arith}
 use Rattle.spec_base.specs.Word.{plus_int}
 use Rattle.spec_base.specs.declared.layout.Layout.{Layout}
+use Rattle.spec_base.specs.declared.note.ShadowState.TheVariants.{Running}
 use Rattle.rv_decode.specs.Encoding.{IsEncodable}
 use Rattle.rv_decode.specs.declared.instr.Instr.{Instr}
 use Rattle.rv_decode.specs.declared.instr.Instr.TheVariants.{Lui, Auipc, Jal, Jalr, Branch, Load, Store, OpImm, OpImmW, Op, OpW, Fence, Ecall, Ebreak, Hgate, Hleave, Hsite, Hkey, Hstop, Hrestart, Hcall, Hpark, Illegal}
@@ -40,7 +41,7 @@ use Rattle.rows_flow.proofs.JalrWords.{jalr_starts}
 use Rattle.rows_log.specs.CallRows.{IsSite}
 use Rattle.rows_log.specs.RestartRows.{HasBox, RestartRow, RestartedRow}
 use Rattle.shadow_laws.proofs.AnyCalls.{AnyCallRow, b1, is_seventh}
-use Rattle.shadow_laws.proofs.Sound.{At, bare}
+use Rattle.shadow_laws.proofs.Sound.{At, bare, Standing, stands-at, flow-is, access-is, site-is, at-first}
 use Rattle.shadow_laws.proofs.TextBlocks.{InText, at-block}
 
 -- ---- what is known
@@ -110,6 +111,28 @@ pub data Within (w : World) (bytes : ℕ → Option ℕ) (program : Memory) : Do
   unboxing : {h : Shade} {n : ℕ} (site : ℕ) (q : Regs) (base : ℕ) (words : List Instr) → IsSite w.image.layout site → JumpFits w.image.layout (site + 4) q base words
       → At w base words (bare (RestartedRow w.image.layout site q)) h n → Within w bytes program (goes_to (site + 4) q) h n
 
+-- in each row the shadow runs, and the tables are consistent
+pub within-stands : {w : World} {bytes : ℕ → Option ℕ} {program : Memory} {d : Doing} {h : Shade} {n : ℕ} → Within w bytes program d h n → Standing w h
+within-stands {w} (computing p i q is c at) = stands-at w at
+within-stands {w} (quartering p rd imm q is f at) = stands-at w at
+within-stands {w} (branching p op rs1 rs2 imm q is at) = stands-at w at
+within-stands {w} (linking p rd imm q is at) = stands-at w at
+within-stands {w} (padding p rd imm q words is f at) = stands-at w at
+within-stands {w} (going p rd rs1 imm q is at) = stands-at w at
+within-stands {w} (jumping p rd rs1 imm q base words is fits at) = stands-at w at
+within-stands {w} (parking p i q is c at) = stands-at w at
+within-stands {w} (guarded q at) = stands-at w at
+within-stands {w} (loading p op rd rs1 imm q is at) = stands-at w at
+within-stands {w} (storing p op rs1 rs2 imm q t0 is at) = stands-at w at
+within-stands {w} (calling p q is at before) = stands-at w at
+within-stands {w} (answered p answer q is at) = stands-at w at
+within-stands {w} (restarting site q base words is fits at) = stands-at w at
+within-stands {w} (unboxing site q base words is fits at) = stands-at w at
+
+-- it runs
+pub within-running : {w : World} {bytes : ℕ → Option ℕ} {program : Memory} {d : Doing} {h : Shade} {n : ℕ} → Within w bytes program d h n → h.hart.state ≡ Running
+within-running within = (within-stands within).running
+
 -- ---- a block begins
 
 -- at word 1 of a block the shadow begins the instruction, or is at the text's end
@@ -122,35 +145,25 @@ module _ (w : World) (a : Accepted w) (bytes : ℕ → Option ℕ) (program : Me
   l = w.image.layout
 
   module _ (p : ℕ) (h : Shade) (s : Point) (ok : TableOk l s.tabs) (sees : AreSeen l bytes program h.shared) where
-    -- at word 1
-    first : (i : Instr) (Row : Place → Regs → Priv → Tabs → Memory → ℕ → Type 0) (n : ℕ) → InText w p i → Sees l (block_at l p) h (record s { place = InBlock 1 }) h.shared
-        → Row (InBlock 1) s.regs s.priv s.tabs h.shared n → At w (block_at l p) (block l p i) Row h n
-    first i Row n is v row = record { code = is.code; point = record s { place = InBlock 1 }; shown = v; ok = ok; row = row }
-
-    -- an instruction stands there
-    flow-is : (i : Instr) → InText w p i → IsInstruction l p
-    flow-is i is = record { lawful = a.lawful; above = is.above; below = is.below; whole = is.whole }
-
-    access-is : (i : Instr) → InText w p i → access.IsInstruction l p
-    access-is i is = record { lawful = a.lawful; above = is.above; below = is.below; whole = is.whole }
-
-    site-is : (i : Instr) → InText w p i → IsSite l p
-    site-is i is = record { lawful = a.lawful; above = is.above; below = is.below; whole = is.whole }
-
+    -- what is claimed
     abbrev Begins : Type 0
     Begins = Begun w bytes program p s.regs h
 
+    -- at word 1
     abbrev v1 : Type 0
     v1 = Sees l (block_at l p) h (record s { place = InBlock 1 }) h.shared
 
+    -- an instruction that computes
     computes : (i : Instr) → Computes i → InText w p i → v1 → Begins
-    computes i c is v = begun i is 2 (omega arith) (computing p i s.regs (flow-is i is) c (first i (bare (PlainRow i s.regs)) 2 is v (plain_starts i s.regs s.priv s.tabs)))
+    computes i c is v = begun i is 2 (omega arith) (computing p i s.regs (flow-is w a is) c (at-first w a s ok i (bare (PlainRow i s.regs)) 2 is v (plain_starts i s.regs s.priv s.tabs)))
 
+    -- one that stops the shadow
     stops : (i : Instr) → Stops i → InText w p i → v1 → Begins
-    stops i c is v = begun i is 1 (omega arith) (parking p i s.regs (flow-is i is) c (first i (bare (ParkRow s.regs)) 1 is v (park_starts s.regs s.priv s.tabs)))
+    stops i c is v = begun i is 1 (omega arith) (parking p i s.regs (flow-is w a is) c (at-first w a s ok i (bare (ParkRow s.regs)) 1 is v (park_starts s.regs s.priv s.tabs)))
 
+    -- each
     by-instr : (i : Instr) → InText w p i → v1 → Begins
-    unfolding first
+    unfolding at-first
     by-instr (Lui rd imm) is v = computes (Lui rd imm) (a_lui rd imm) is v
     by-instr (OpImm op rd rs1 imm) is v = computes (OpImm op rd rs1 imm) (an_imm op rd rs1 imm) is v
     by-instr (OpImmW op rd rs1 imm) is v = computes (OpImmW op rd rs1 imm) (an_imm_w op rd rs1 imm) is v
@@ -159,32 +172,32 @@ module _ (w : World) (a : Accepted w) (bytes : ℕ → Option ℕ) (program : Me
     by-instr (Fence number) is v = computes (Fence number) (a_fence number) is v
     by-instr (Auipc rd imm) is v =
         begun (Auipc rd imm) is 4 (omega arith)
-        (quartering p rd imm s.regs (flow-is (Auipc rd imm) is) (is.encodable (λ e. not_illegal e))
-        (first (Auipc rd imm) (bare (AuipcRow rd (plus_int p imm) s.regs)) 4 is v (auipc_starts rd (plus_int p imm) s.regs s.priv s.tabs)))
+        (quartering p rd imm s.regs (flow-is w a is) (is.encodable (λ e. not_illegal e))
+        (at-first w a s ok (Auipc rd imm) (bare (AuipcRow rd (plus_int p imm) s.regs)) 4 is v (auipc_starts rd (plus_int p imm) s.regs s.priv s.tabs)))
       where
         not_illegal : Auipc rd imm ≡ Illegal → ⊥
         not_illegal e = cc
     by-instr (Jal rd imm) is v =
         begun (Jal rd imm) is 6 (omega arith)
-        (linking p rd imm s.regs (flow-is (Jal rd imm) is) (first (Jal rd imm) (bare (JalRow l p rd (plus_int p imm) s.regs)) 6 is v (jal_starts l p rd (plus_int p imm) s.regs s.priv s.tabs)))
+        (linking p rd imm s.regs (flow-is w a is) (at-first w a s ok (Jal rd imm) (bare (JalRow l p rd (plus_int p imm) s.regs)) 6 is v (jal_starts l p rd (plus_int p imm) s.regs s.priv s.tabs)))
     by-instr (Jalr rd rs1 imm) is v =
         begun (Jalr rd rs1 imm) is 25 (omega arith)
-        (going p rd rs1 imm s.regs (flow-is (Jalr rd rs1 imm) is) (first (Jalr rd rs1 imm) (bare (JalrRow l p rd rs1 imm s.regs)) 25 is v (jalr_starts l p rd rs1 imm s.regs s.priv s.tabs)))
+        (going p rd rs1 imm s.regs (flow-is w a is) (at-first w a s ok (Jalr rd rs1 imm) (bare (JalrRow l p rd rs1 imm s.regs)) 25 is v (jalr_starts l p rd rs1 imm s.regs s.priv s.tabs)))
     by-instr (Branch op rs1 rs2 imm) is v =
         begun (Branch op rs1 rs2 imm) is 2 (omega arith)
-        (branching p op rs1 rs2 imm s.regs (flow-is (Branch op rs1 rs2 imm) is) (first (Branch op rs1 rs2 imm) (bare (BranchRow op rs1 rs2 s.regs)) 2 is v (branch_starts op rs1 rs2 s.regs s.priv s.tabs)))
+        (branching p op rs1 rs2 imm s.regs (flow-is w a is) (at-first w a s ok (Branch op rs1 rs2 imm) (bare (BranchRow op rs1 rs2 s.regs)) 2 is v (branch_starts op rs1 rs2 s.regs s.priv s.tabs)))
     by-instr (Load op rd rs1 imm) is v =
         let given : Option ℕ = known_from bytes (plus_int (get rs1 s.regs) imm) (load_width op) in
         begun (Load op rd rs1 imm) is 227 (omega arith)
-        (loading p op rd rs1 imm s.regs (access-is (Load op rd rs1 imm) is)
-        (first (Load op rd rs1 imm) (bare (LoadsRow l p op rd rs1 imm s.regs given)) 227 is v (load_starts l p op rd rs1 imm s.regs given s.priv s.tabs)))
+        (loading p op rd rs1 imm s.regs (access-is w a is)
+        (at-first w a s ok (Load op rd rs1 imm) (bare (LoadsRow l p op rd rs1 imm s.regs given)) 227 is v (load_starts l p op rd rs1 imm s.regs given s.priv s.tabs)))
     by-instr (Store op rs1 rs2 imm) is v =
         begun (Store op rs1 rs2 imm) is 227 (omega arith)
-        (storing p op rs1 rs2 imm s.regs s.tabs (access-is (Store op rs1 rs2 imm) is)
-        (first (Store op rs1 rs2 imm) (StoresRow l p op rs1 rs2 imm s.regs bytes program s.tabs) 227 is v
+        (storing p op rs1 rs2 imm s.regs s.tabs (access-is w a is)
+        (at-first w a s ok (Store op rs1 rs2 imm) (StoresRow l p op rs1 rs2 imm s.regs bytes program s.tabs) 227 is v
         (store_starts l p op rs1 rs2 imm s.regs bytes program s.priv s.tabs h.shared (λ x i j. sees s.tabs v.tabs x))))
     by-instr Ecall is v =
-        begun Ecall is 31 (omega arith) (calling p s.regs (site-is Ecall is) (first Ecall (bare (AnyCallRow l p s.regs)) 31 is v (b1 s.priv)) refl)
+        begun Ecall is 31 (omega arith) (calling p s.regs (site-is w a is) (at-first w a s ok Ecall (bare (AnyCallRow l p s.regs)) 31 is v (b1 s.priv)) refl)
     by-instr Ebreak is v = stops Ebreak at_ebreak is v
     by-instr Hgate is v = stops Hgate at_gate is v
     by-instr Hleave is v = stops Hleave at_leave is v

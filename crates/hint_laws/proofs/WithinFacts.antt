@@ -1,10 +1,9 @@
--- What a shadow's row says by itself: that its tables are consistent, that the answer of a call stands in x10 behind it, and where RESTART's rows are.
-use Rattle.std.proofs.Common.{◌≡◌, ℕ, ◌+◌, ◌*◌, ◌<◌, ◌≤◌, ◌⊎◌, inl, inr, Bool, true, false, nat_lt, List, refl, ◌∙◌, ap, sym, subst, arith, Option}
+-- What a shadow's row says by itself: that the answer of a call stands in x10 behind it, and where RESTART's rows are.
+use Rattle.std.proofs.Common.{◌≡◌, ℕ, ◌+◌, ◌*◌, ◌<◌, ◌≤◌, ◌⊎◌, inl, inr, Bool, true, false, nat_lt, refl, ◌∙◌, ap, sym, subst, arith, Option}
 use Rattle.std.specs.Prelude.{⊤}
 use Rattle.std.proofs.lemmas.Bool.Decides.{nat_tests}
 use Rattle.spec_base.specs.Layout.{helpers_start}
 use Rattle.spec_base.specs.declared.layout.Layout.{Layout}
-use Rattle.rv_decode.specs.declared.instr.Instr.{Instr}
 use Rattle.rv_model.specs.Memory.{Memory}
 use Rattle.rv_model.specs.Registers.{reg}
 use Rattle.code_model.specs.Places.{RESTART, FAULT}
@@ -16,33 +15,7 @@ use Rattle.side_model.specs.Places.{Restarting, Place, InHelper, Faulting, addre
 use Rattle.side_model.specs.Sees.{Shade}
 use Rattle.side_model.specs.JumpRows.{JumpRow, faults}
 use Rattle.rows_log.specs.RestartRows.{RestartRow, r18-47, RestartedRow, UnboxedRow, r49, r50}
-use Rattle.shadow_laws.proofs.Sound.{At, Standing}
-use Rattle.hint_laws.proofs.Within.{Doing, does, ends, restarts, goes_to, BehindRow, behind, Within, computing, quartering, branching, linking, padding, going, jumping, parking, guarded, loading, storing, calling, answered, restarting, unboxing}
-
--- ---- tables
-
-module _ (w : World) where
-  -- a row's
-  stands-at : {base : ℕ} {words : List Instr} {Row : Place → Regs → Priv → Tabs → Memory → ℕ → Type 0} {h : Shade} {n : ℕ} → At w base words Row h n → Standing w h
-  stands-at at = record { tables = at.point.tabs; has = at.shown.tabs; ok = at.ok; running = at.shown.running }
-
-  -- in each row the shadow runs, and the tables are consistent
-  pub within-stands : {bytes : ℕ → Option ℕ} {program : Memory} {d : Doing} {h : Shade} {n : ℕ} → Within w bytes program d h n → Standing w h
-  within-stands (computing p i q is c at) = stands-at at
-  within-stands (quartering p rd imm q is f at) = stands-at at
-  within-stands (branching p op rs1 rs2 imm q is at) = stands-at at
-  within-stands (linking p rd imm q is at) = stands-at at
-  within-stands (padding p rd imm q words is f at) = stands-at at
-  within-stands (going p rd rs1 imm q is at) = stands-at at
-  within-stands (jumping p rd rs1 imm q base words is fits at) = stands-at at
-  within-stands (parking p i q is c at) = stands-at at
-  within-stands (guarded q at) = stands-at at
-  within-stands (loading p op rd rs1 imm q is at) = stands-at at
-  within-stands (storing p op rs1 rs2 imm q t0 is at) = stands-at at
-  within-stands (calling p q is at before) = stands-at at
-  within-stands (answered p answer q is at) = stands-at at
-  within-stands (restarting site q base words is fits at) = stands-at at
-  within-stands (unboxing site q base words is fits at) = stands-at at
+use Rattle.hint_laws.proofs.Within.{Doing, does, ends, restarts, goes_to, BehindRow, behind, Within, answered, restarting, unboxing}
 
 -- ---- behind a call
 

@@ -1,123 +1,54 @@
 -- A shadow that follows the program goes on following it while the own hart changes bytes that it doesn't take from the program's memory, and the head of the hint log.
-use Rattle.std.proofs.Common.{◌≡◌, ℕ, ◌+◌, ◌/◌, ◌<◌, ◌≤◌, true, ◌==◌, List, Option, Some, refl, ◌∙◌, arith}
+use Rattle.std.proofs.Common.{◌≡◌, ℕ, ◌/◌, ◌<◌, ◌≤◌, true, ◌==◌, Option, Some, refl, ◌∙◌, arith}
 use Rattle.std.proofs.lemmas.Bool.Decides.{nat_tests}
-use Rattle.spec_base.specs.Layout.{range_start, range_end, link_start, table_start, list_start}
+use Rattle.spec_base.specs.Layout.{range_start, range_end}
 use Rattle.spec_base.specs.declared.layout.Layout.{Layout}
-use Rattle.spec_base.specs.declared.note.ShadowState.TheVariants.{Running}
-use Rattle.rv_decode.specs.declared.instr.Instr.{Instr}
-use Rattle.rv_model.specs.Memory.{Memory, loaded}
-use Rattle.code_model.specs.Regions.{entry_address, entry_of, listed_address}
+use Rattle.rv_model.specs.Memory.{Memory}
+use Rattle.code_model.specs.Regions.{entry_of}
 use Rattle.run_model.specs.Run.{World}
-use Rattle.side_model.specs.Hart.{Regs, Priv}
-use Rattle.side_model.specs.Tables.{Tabs, HasTabs}
-use Rattle.side_model.specs.Places.{Place}
 use Rattle.side_model.specs.Sees.{Shade}
-use Rattle.rows_access.proofs.AccessPlaces.{loaded-same}
 use Rattle.rows_access.proofs.Reach.{region-of}
 use Rattle.rows_access.proofs.StoreChanges.{store_keeps}
 use Rattle.rows_log.proofs.RestartWords.{box_stays}
-use Rattle.shadow_laws.proofs.Sound.{At}
+use Rattle.shadow_laws.proofs.SoundSteps.{LeavesBehindHead, stays-at}
 use Rattle.hint_laws.proofs.Within.{Doing, Within, computing, quartering, branching, linking, padding, going, jumping, parking, guarded, loading, storing, calling, answered, restarting, unboxing}
 use Rattle.hint_laws.proofs.Followed.{is_storing}
-
--- all that is shared behind the log's head is left
-abbrev pub LeavesBehindHead : Memory → Memory → Type 0
-LeavesBehindHead m m' = (b : ℕ) → link_start + 8 ≤ b → m' b ≡ m b
 
 -- known bytes whose regions have no copy are left in the program's memory
 abbrev pub LeavesKnown : Layout → Memory → (ℕ → Option ℕ) → Memory → Memory → Type 0
 LeavesKnown l shared bytes program program' = (b v : ℕ) → range_start ≤ b → b < range_end l.version → entry_of shared (b / 256) ≡ 0 → bytes b ≡ Some v → program' b ≡ program b
 
--- a number behind a place stays
-pub number-kept : (m m' : Memory) (from : ℕ) → ((b : ℕ) → from ≤ b → m' b ≡ m b) → (a n : ℕ) → from ≤ a → loaded m' a n ≡ loaded m a n
-number-kept m m' from same a n h = loaded-same n m' m a a (λ k less. same (a + k) (omega arith))
-
--- an entry of the table stays where the table does
-pub entry-kept : (m m' : Memory) → ((b : ℕ) → table_start ≤ b → m' b ≡ m b) → (region : ℕ) → entry_of m' region ≡ entry_of m region
-entry-kept m m' same region = number-kept m m' table_start same (entry_address region) 4 (omega arith)
-
--- table and list stay
-pub tabs-kept : (l : Layout) (m m' : Memory) (t : Tabs) → ((b : ℕ) → table_start ≤ b → m' b ≡ m b) → HasTabs l m t → HasTabs l m' t
-tabs-kept l m m' t same has =
-    record {
-      entry = λ region h. entry-kept m m' same region ∙ has.entry region h;
-      count = number-kept m m' table_start same list_start 8 (omega arith) ∙ has.count;
-      listed = λ slot h. number-kept m m' table_start same (listed_address slot) 4 (omega arith) ∙ has.listed slot h;
-    }
-
 module _ (w : World) (bytes : ℕ → Option ℕ) (program program' : Memory) (h : Shade) (m : Memory) (leaves : LeavesBehindHead h.shared m) where
   abbrev l : Layout
   l = w.image.layout
 
+  -- the shadow with other bytes shared
   abbrev changed : Shade
   changed = record h { shared = m }
-
-  -- the shadow is where it was
-  stays-at : {base : ℕ} {words : List Instr} {Row Row' : Place → Regs → Priv → Tabs → Memory → ℕ → Type 0} {n : ℕ} → (at : At w base words Row h n)
-      → Row' at.point.place at.point.regs at.point.priv at.point.tabs m n → At w base words Row' changed n
-  stays-at at row =
-      record {
-        code = at.code;
-        point = at.point;
-        shown = record {
-          pc = at.shown.pc;
-          regs = at.shown.regs;
-          priv = at.shown.priv;
-          tabs = tabs-kept l h.shared m at.point.tabs (λ b k. leaves b (omega arith)) at.shown.tabs;
-          shared = refl;
-          running = at.shown.running;
-        };
-        ok = at.ok;
-        row = row;
-      }
 
   -- at each row; of the program's memory a store alone speaks
   pub within-stays : {d : Doing} {n : ℕ} → (is_storing d ≡ true → LeavesKnown l h.shared bytes program program') → Within w bytes program d h n → Within w bytes program' d changed n
   unfolding stays-at
-  within-stays same (computing p i q is c at) = computing p i q is c (stays-at at at.row)
-  within-stays same (quartering p rd imm q is f at) = quartering p rd imm q is f (stays-at at at.row)
-  within-stays same (branching p op rs1 rs2 imm q is at) = branching p op rs1 rs2 imm q is (stays-at at at.row)
-  within-stays same (linking p rd imm q is at) = linking p rd imm q is (stays-at at at.row)
-  within-stays same (padding p rd imm q words is f at) = padding p rd imm q words is f (stays-at at at.row)
-  within-stays same (going p rd rs1 imm q is at) = going p rd rs1 imm q is (stays-at at at.row)
-  within-stays same (jumping p rd rs1 imm q base words is fits at) = jumping p rd rs1 imm q base words is fits (stays-at at at.row)
-  within-stays same (parking p i q is c at) = parking p i q is c (stays-at at at.row)
-  within-stays same (guarded q at) = guarded q (stays-at at at.row)
-  within-stays same (loading p op rd rs1 imm q is at) = loading p op rd rs1 imm q is (stays-at at at.row)
+  within-stays same (computing p i q is c at) = computing p i q is c (stays-at leaves at at.row)
+  within-stays same (quartering p rd imm q is f at) = quartering p rd imm q is f (stays-at leaves at at.row)
+  within-stays same (branching p op rs1 rs2 imm q is at) = branching p op rs1 rs2 imm q is (stays-at leaves at at.row)
+  within-stays same (linking p rd imm q is at) = linking p rd imm q is (stays-at leaves at at.row)
+  within-stays same (padding p rd imm q words is f at) = padding p rd imm q words is f (stays-at leaves at at.row)
+  within-stays same (going p rd rs1 imm q is at) = going p rd rs1 imm q is (stays-at leaves at at.row)
+  within-stays same (jumping p rd rs1 imm q base words is fits at) = jumping p rd rs1 imm q base words is fits (stays-at leaves at at.row)
+  within-stays same (parking p i q is c at) = parking p i q is c (stays-at leaves at at.row)
+  within-stays same (guarded q at) = guarded q (stays-at leaves at at.row)
+  within-stays same (loading p op rd rs1 imm q is at) = loading p op rd rs1 imm q is (stays-at leaves at at.row)
   within-stays {n = n} same (storing p op rs1 rs2 imm q t0 is at) =
       storing p op rs1 rs2 imm q t0 is
-      (stays-at at
+      (stays-at leaves at
       (store_keeps l p op rs1 rs2 imm q bytes program program' t0 n at.point.place at.point.regs at.point.priv at.point.tabs h.shared m
       (λ b v low high none e. same refl b v low high (at.shown.tabs.entry (b / 256) (region-of l b high) ∙ zero-of (at.point.tabs.entry (b / 256)) none) e) (λ b g. leaves b (omega arith)) at.row))
     where
       zero-of : (n : ℕ) → (n == 0) ≡ true → n ≡ 0
       zero-of n e = grind (arith, nat_tests)
-  within-stays same (calling p q is at before) = calling p q is (stays-at at at.row) before
-  within-stays same (answered p answer q is at) = answered p answer q is (stays-at at at.row)
+  within-stays same (calling p q is at before) = calling p q is (stays-at leaves at at.row) before
+  within-stays same (answered p answer q is at) = answered p answer q is (stays-at leaves at at.row)
   within-stays same (restarting site q base words is fits at) =
-      restarting site q base words is fits (stays-at at (at.row.0, box_stays h.shared m site q (λ b g i. leaves b (omega arith)) at.row.1))
-  within-stays same (unboxing site q base words is fits at) = unboxing site q base words is fits (stays-at at at.row)
-
--- ---- it runs
-
-module _ (w : World) (bytes : ℕ → Option ℕ) (program : Memory) where
-  runs-at : {base : ℕ} {words : List Instr} {Row : Place → Regs → Priv → Tabs → Memory → ℕ → Type 0} {h : Shade} {n : ℕ} → At w base words Row h n → h.hart.state ≡ Running
-  runs-at at = at.shown.running
-
-  -- a shadow at a row runs
-  pub within-runs : {d : Doing} {h : Shade} {n : ℕ} → Within w bytes program d h n → h.hart.state ≡ Running
-  within-runs (computing p i q is c at) = runs-at at
-  within-runs (quartering p rd imm q is f at) = runs-at at
-  within-runs (branching p op rs1 rs2 imm q is at) = runs-at at
-  within-runs (linking p rd imm q is at) = runs-at at
-  within-runs (padding p rd imm q words is f at) = runs-at at
-  within-runs (going p rd rs1 imm q is at) = runs-at at
-  within-runs (jumping p rd rs1 imm q base words is fits at) = runs-at at
-  within-runs (parking p i q is c at) = runs-at at
-  within-runs (guarded q at) = runs-at at
-  within-runs (loading p op rd rs1 imm q is at) = runs-at at
-  within-runs (storing p op rs1 rs2 imm q t0 is at) = runs-at at
-  within-runs (calling p q is at before) = runs-at at
-  within-runs (answered p answer q is at) = runs-at at
-  within-runs (restarting site q base words is fits at) = runs-at at
-  within-runs (unboxing site q base words is fits at) = runs-at at
+      restarting site q base words is fits (stays-at leaves at (at.row.0, box_stays h.shared m site q (λ b g i. leaves b (omega arith)) at.row.1))
+  within-stays same (unboxing site q base words is fits at) = unboxing site q base words is fits (stays-at leaves at at.row)

@@ -24,6 +24,7 @@ use Rattle.run_model.specs.Run.{World, Run, Answer, rewritten_words}
 use Rattle.run_model.specs.ShadowMoves.{shadow_step, fetch_shadow, is_call_word}
 use Rattle.run_model.specs.HintLaws.{is_ecall}
 use Rattle.run_model.specs.OwnLaws.{Accepted}
+use Rattle.own_laws.proofs.Reached.{false_true}
 use Rattle.side_model.specs.Hart.{Regs, get, put, Priv}
 use Rattle.side_model.specs.Tables.{Tabs, HasTabs, TableOk, all_regions}
 use Rattle.side_model.specs.Places.{Place, InBlock, InHelper, Away, Jumping, address, is_inner, code, IsBase, HasBlock}
@@ -57,8 +58,9 @@ use Rattle.shadow_laws.proofs.AnyCalls as any
 use Rattle.shadow_laws.proofs.AnyCalls.{AnyCallRow, AnyCallNext, LeavesTables, is_sixth, is_seventh, at-call, any_call-leads}
 use Rattle.shadow_laws.proofs.ShadowNumbers.{Sized, stock_of}
 use Rattle.shadow_laws.proofs.Sound.{At, bare, is_helper, jump-place, Target, target-of, target-block, pad-target}
-use Rattle.shadow_laws.proofs.SoundSteps.{landed}
+use Rattle.shadow_laws.proofs.SoundSteps.{landed, next as step-to}
 use Rattle.shadow_laws.proofs.TextBlocks.{InText, at-address}
+use Rattle.mark_laws.proofs.OneInstruction.{true_false}
 use Rattle.hint_laws.proofs.Within.{known_from, AreSeen, Doing, does, ends, restarts, goes_to, joined, BehindRow, behind, Within, computing, quartering, branching, linking, padding, going, jumping, parking, guarded, loading, storing, calling, answered, restarting, unboxing}
 
 -- ---- what a word leaves
@@ -159,33 +161,27 @@ record AtHcall (l : Layout) (q rs : Regs) (t : Tabs) : Type 0 where
   loaded : AreLoaded 30 q rs
   fresh : IsFresh l t
 
--- false isn't true
-wrong : {A : Type 0} → false ≡ true → A
-wrong {A} e = absurd (no e)
-  where
-    no : false ≡ true → ⊥
-    no e = cc
-
+-- at the HCALL the registers of the box are loaded, and the table is fresh
 at-hcall : {l : Layout} {site : ℕ} {q : Regs} {place : Place} {rs : Regs} {s : Priv} {t : Tabs} {n : ℕ} → RestartRow l site q place rs s t n → is_hcall place ≡ true → AtHcall l q rs t
 at-hcall (r48 s fresh loaded) e = record { loaded = loaded; fresh = fresh }
 at-hcall (r18-47 k s less fresh x31 loaded) e = absurd (grind (arith, nat_tests, less, e))
-at-hcall (r1 s) e = wrong e
-at-hcall (r2 s) e = wrong e
-at-hcall (r3 s) e = wrong e
-at-hcall (r4 s) e = wrong e
-at-hcall (r5 s) e = wrong e
-at-hcall (r6 j s h c) e = wrong e
-at-hcall (r7 j s h c) e = wrong e
-at-hcall (r8 j s h c) e = wrong e
-at-hcall (r9 j s h c) e = wrong e
-at-hcall (r10 j s h c) e = wrong e
-at-hcall (r11 s c) e = wrong e
-at-hcall (r12 s f) e = wrong e
-at-hcall (r13 s f) e = wrong e
-at-hcall (r14 s f) e = wrong e
-at-hcall (r15 s f) e = wrong e
-at-hcall (r16 s f) e = wrong e
-at-hcall (r17 s f) e = wrong e
+at-hcall (r1 s) e = false_true e
+at-hcall (r2 s) e = false_true e
+at-hcall (r3 s) e = false_true e
+at-hcall (r4 s) e = false_true e
+at-hcall (r5 s) e = false_true e
+at-hcall (r6 j s h c) e = false_true e
+at-hcall (r7 j s h c) e = false_true e
+at-hcall (r8 j s h c) e = false_true e
+at-hcall (r9 j s h c) e = false_true e
+at-hcall (r10 j s h c) e = false_true e
+at-hcall (r11 s c) e = false_true e
+at-hcall (r12 s f) e = false_true e
+at-hcall (r13 s f) e = false_true e
+at-hcall (r14 s f) e = false_true e
+at-hcall (r15 s f) e = false_true e
+at-hcall (r16 s f) e = false_true e
+at-hcall (r17 s f) e = false_true e
 
 -- ---- places of rows
 
@@ -266,11 +262,13 @@ is_calls Fails = false
 module _ (l : Layout) (program : Memory) (base : ℕ) (Row : Place → Regs → Priv → Tabs → Memory → ℕ → Type 0) (Arrives : ℕ → Regs → Tabs → Memory → Type 0) (Why : Park → Tabs → Memory → Type 0) (n : ℕ)
     (P : Memory → Type 0) (other : Memory) (never : P other → ⊥) (rows : (s : Point) (m : Memory) (k : ℕ) → Row s.place s.regs s.priv s.tabs m k → P m)
     (arrivals : (p : ℕ) (s : Point) (m : Memory) → Arrives p s.regs s.tabs m → P m) where
+  -- a word that goes on leads to a row or to an arrival, so P is so of what it leaves
   goes-so : (s : Point) (m : Memory) → Led l program base Row Arrives Why n (Goes s m) → P m
   goes-so s m (on {k} row ok less inner) = rows s m k row
   goes-so s m (leaps place e d) = goes-so (record s { place = place }) m d
   goes-so s m (led.arrives p e b y ok) = arrivals p s m y
 
+  -- so no word of these rows is an HCALL
   no-calls : (o : Out) → Led l program base Row Arrives Why n o → is_calls o ≡ false
   no-calls (Calls unhinted s m) (calls f ok) = absurd (never (goes-so _ other (f 0 s.tabs other (lit< tt) ok)))
   no-calls (Goes s m) d = refl
@@ -282,10 +280,7 @@ module _ (l : Layout) (program : Memory) (base : ℕ) (Row : Place → Regs → 
 
 -- an instruction that is no HCALL there is no HCALL
 no-call-word : (base : ℕ) (i : Instr) (s : Point) (m : Memory) → is_calls (exec base i s m) ≡ false → is_call_word (Some i) ≡ false
-no-call-word base (Hcall unhinted) s m e = absurd (no e)
-  where
-    no : true ≡ false → ⊥
-    no e = cc
+no-call-word base (Hcall unhinted) s m e = true_false e
 no-call-word base (Lui rd imm) s m e = refl
 no-call-word base (Auipc rd imm) s m e = refl
 no-call-word base (Jal rd imm) s m e = refl
@@ -313,6 +308,7 @@ no-call-word base Illegal s m e = refl
 abbrev raised : Memory → Memory
 raised m b = m b + 1
 
+-- so none is left as it was
 not-raised : (m : Memory) (b : ℕ) → raised m b ≡ m b → ⊥
 not-raised m b e = omega (arith, e)
 
@@ -328,6 +324,7 @@ module _ (w : World) (a : Accepted w) (x : Answer) (r : Run) (z : Sized (stock_o
   abbrev program : Memory
   program = program_byte l (rewritten_words w) r.own.memory
 
+  -- to what a word leads
   abbrev LeadsOn : Doing → ℕ → Type 0
   LeadsOn d n = Leads w bytes program d n r after
 
@@ -344,11 +341,6 @@ module _ (w : World) (a : Accepted w) (x : Answer) (r : Run) (z : Sized (stock_o
       reaches p base s b e ok (record { pc = v.pc; regs = v.regs; priv = v.priv; tabs = v.tabs; shared = refl; running = v.running }) came.0 came.1
   settles {d} rows arrives stops (parked cause t m (inl why) ok has state) = halts cause state t has ok (stops cause t m why)
   settles {d} rows arrives stops (parked cause t m (inr e) ok has state) = halts cause state t has ok (exits e)
-
-  -- at a row of the same block
-  next : {base : ℕ} {words : List Instr} {Row Row' : Place → Regs → Priv → Tabs → Memory → ℕ → Type 0} {n k : ℕ} → At w base words Row (shade_of r) n
-      → (s : Point) → Sees l base after s after.shared → TableOk l s.tabs → Row' s.place s.regs s.priv s.tabs after.shared k → At w base words Row' after k
-  next at s v ok row = record { code = at.code; point = s; shown = v; ok = ok; row = row }
 
   -- what the program range has are bytes
   program-small : (b : ℕ) → program b < 256
@@ -374,9 +366,11 @@ module _ (w : World) (a : Accepted w) (x : Answer) (r : Run) (z : Sized (stock_o
   abbrev IsLeft : Memory → Type 0
   IsLeft m = (b : ℕ) → m b ≡ r.shared b
 
+  -- the raised memory isn't left
   not-left : IsLeft (raised r.shared) → ⊥
   not-left f = not-raised r.shared 0 (f 0)
 
+  -- one that is the same is
   same-left : {m : Memory} → m ≡ r.shared → IsLeft m
   same-left e b = ap (λ (m : Memory). m b) e
 
@@ -393,16 +387,16 @@ module _ (w : World) (a : Accepted w) (x : Answer) (r : Run) (z : Sized (stock_o
       by_place : (place : Place) → is_inner place ≡ true → (is_ecall (Some i) ≡ false) ⊎ (is_seventh place ≡ false) → after.hart.pc ≡ address (block_at l p) place → Inner l after.hart.pc (does p i q)
       by_place (InBlock n) e h f = in_block n (grind (arith, nat_tests, e)) (grind (arith, nat_tests, e)) (seventh-no (is_ecall (Some i)) (n == 7) h) f
       by_place (InHelper k n) e h f = in_helper (subst (λ a. nat_le helpers_start a ≡ true) (sym f) (grind (arith, nat_tests)))
-      by_place (Away b) e h f = wrong e
+      by_place (Away b) e h f = false_true e
 
   -- a place in a helper, or at word 0 of a block
   inner-pad : {d : Doing} (base : ℕ) (s : Point) → IsBase base → (is_helper s.place ≡ true) ⊎ (s.place ≡ InBlock 0) → Sees l base after s after.shared → Inner l after.hart.pc d
   inner-pad {d} base s b (inl h) v = by_place s.place h v.pc
     where
       by_place : (place : Place) → is_helper place ≡ true → after.hart.pc ≡ address base place → Inner l after.hart.pc d
-      by_place (InBlock n) e f = wrong e
+      by_place (InBlock n) e f = false_true e
       by_place (InHelper k n) e f = in_helper (subst (λ a. nat_le helpers_start a ≡ true) (sym f) (grind (arith, nat_tests)))
-      by_place (Away b) e f = wrong e
+      by_place (Away b) e f = false_true e
   inner-pad {d} base s b (inr e) v = at_pad (omega (arith, v.pc, ap (address base) e, b.whole))
 
   -- a flow's word
@@ -420,7 +414,7 @@ module _ (w : World) (a : Accepted w) (x : Answer) (r : Run) (z : Sized (stock_o
       → Crosses l program p (Jal rd imm) q (block_at l p) (block_at l (plus_int p imm)) (JalRow l p rd (plus_int p imm) q) (PadRow l p rd (plus_int p imm) q)
       (code l (block l p (Jal rd imm)) at.point.place) at.point.place at.point.regs at.point.priv at.point.tabs r.shared n
       → LeadsOn (does p (Jal rd imm) q) n
-  crossed p rd imm q n is at (stays d) = flow at (λ s k inner row v ok. (linking p rd imm q is (next at s v ok row), inner-at s inner (inl refl) v)) d
+  crossed p rd imm q n is at (stays d) = flow at (λ s k inner row v ok. (linking p rd imm q is (step-to w a x r z at s v ok row), inner-at s inner (inl refl) v)) d
   crossed p rd imm q n is at (crosses k register offset e to row less) =
       let target : ℕ = plus_int p imm in
       let inside : is_target l target ≡ true = pad-target row in
@@ -450,12 +444,12 @@ module _ (w : World) (a : Accepted w) (x : Answer) (r : Run) (z : Sized (stock_o
   called : {n : ℕ} (p : ℕ) (q : Regs) → IsSite l p → (at : At w (block_at l p) (block l p Ecall) (bare (AnyCallRow l p q)) (shade_of r) n) → is_seventh at.point.place ≡ false
       → (is_sixth at.point.place ≡ false → IsQuiet w r) → (s : Point) (k : ℕ) → k < n → is_inner s.place ≡ true
       → AnyCallNext l p q at.point.place at.point.tabs r.shared s.place s.regs s.priv s.tabs after.shared k → Sees l (block_at l p) after s after.shared → TableOk l s.tabs → LeadsOn (does p Ecall q) n
-  unfolding next
+  unfolding step-to
   called {n} p q is at before quiet s k less inner row v ok = by_next (split row)
     where
       by_next : (AnyCallRow l p q s.place s.regs s.priv s.tabs k × (is_sixth at.point.place ≡ false) × (is_seventh s.place ≡ false) × LeavesTables r.shared after.shared)
           ⊎ ((answer : ℕ) × (at.point.place ≡ InBlock 6) × (s.place ≡ InBlock 7) × (s.regs ≡ put 10 answer q) × (k ≡ 1)) → LeadsOn (does p Ecall q) n
-      by_next (inl (row, first, other, leaves)) = goes k less (calling p q is (next at s v ok row) other) (tables leaves) (inner-at s inner (inr other) v) (quiet first)
+      by_next (inl (row, first, other, leaves)) = goes k less (calling p q is (step-to w a x r z at s v ok row) other) (tables leaves) (inner-at s inner (inr other) v) (quiet first)
       by_next (inr (answer, from, place, regs, one)) =
           let q' : Regs = put 10 answer q in
           let behind-row : BehindRow q' s.place s.regs s.priv s.tabs k =
@@ -464,7 +458,7 @@ module _ (w : World) (a : Accepted w) (x : Answer) (r : Run) (z : Sized (stock_o
           let is_q : at.point.regs ≡ q = at-call l p q at.row (ap is_sixth from) in
           turns k less (p + 4) q'
           (asks answer (fetched at (Hcall false) (ap (code l (block l p Ecall)) from)) (at.shown.pc ∙ ap (address (block_at l p)) from) (subst (λ rs. HasRegs r.shadow.registers rs) is_q at.shown.regs) refl refl)
-          (answered p answer q is (next at s v ok behind-row)) (behind_call p refl (v.pc ∙ ap (address (block_at l p)) place))
+          (answered p answer q is (step-to w a x r z at s v ok behind-row)) (behind_call p refl (v.pc ∙ ap (address (block_at l p)) place))
 
   -- the word behind the HCALL
   behind-call : {n : ℕ} (p answer : ℕ) (q : Regs) → IsSite l p → At w (block_at l p) (block l p Ecall) (bare (BehindRow (put 10 answer q))) (shade_of r) n → LeadsOn (goes_to (p + 4) (put 10 answer q)) n
@@ -484,15 +478,15 @@ module _ (w : World) (a : Accepted w) (x : Answer) (r : Run) (z : Sized (stock_o
   -- each word leads on; a load wants that the known bytes are seen
   pub within-leads : {d : Doing} {n : ℕ} → ((p rd rs1 : ℕ) (op : LoadOp) (imm : ℤ) (q : Regs) → d ≡ does p (Load op rd rs1 imm) q → AreSeen l bytes program r.shared) → Within w bytes program d (shade_of r) n → LeadsOn d n
   within-leads {n = n} sees (computing p i q is c at) =
-      flow at (λ s k inner row v ok. (computing p i q is c (next at s v ok row), inner-at s inner (inl (computes-no_call c)) v)) (plain_leads l p i q program is c n at.point.place at.point.regs at.point.priv at.point.tabs r.shared at.ok at.row)
+      flow at (λ s k inner row v ok. (computing p i q is c (step-to w a x r z at s v ok row), inner-at s inner (inl (computes-no_call c)) v)) (plain_leads l p i q program is c n at.point.place at.point.regs at.point.priv at.point.tabs r.shared at.ok at.row)
   within-leads {n = n} sees (quartering p rd imm q is f at) =
-      flow at (λ s k inner row v ok. (quartering p rd imm q is f (next at s v ok row), inner-at s inner (inl refl) v)) (auipc_leads l p rd imm q program is f n at.point.place at.point.regs at.point.priv at.point.tabs r.shared at.ok at.row)
+      flow at (λ s k inner row v ok. (quartering p rd imm q is f (step-to w a x r z at s v ok row), inner-at s inner (inl refl) v)) (auipc_leads l p rd imm q program is f n at.point.place at.point.regs at.point.priv at.point.tabs r.shared at.ok at.row)
   within-leads {n = n} sees (branching p op rs1 rs2 imm q is at) =
-      flow at (λ s k inner row v ok. (branching p op rs1 rs2 imm q is (next at s v ok row), inner-at s inner (inl refl) v)) (branch_leads l p op rs1 rs2 imm q program is n at.point.place at.point.regs at.point.priv at.point.tabs r.shared at.ok at.row)
+      flow at (λ s k inner row v ok. (branching p op rs1 rs2 imm q is (step-to w a x r z at s v ok row), inner-at s inner (inl refl) v)) (branch_leads l p op rs1 rs2 imm q program is n at.point.place at.point.regs at.point.priv at.point.tabs r.shared at.ok at.row)
   within-leads {n = n} sees (linking p rd imm q is at) =
       crossed p rd imm q n is at (jal_leads l p rd imm q program is n at.point.place at.point.regs at.point.priv at.point.tabs r.shared at.ok at.row)
   within-leads {n = n} sees (padding p rd imm q words is f at) =
-      flow at (λ s k inner row v ok. (padding p rd imm q words is f (next at s v ok row), inner-pad (block_at l (plus_int p imm)) s at.code.lawful (inr (pad-place row)) v)) (pad_leads l p rd imm q words program is f n at.point.place at.point.regs at.point.priv at.point.tabs r.shared at.ok at.row)
+      flow at (λ s k inner row v ok. (padding p rd imm q words is f (step-to w a x r z at s v ok row), inner-pad (block_at l (plus_int p imm)) s at.code.lawful (inr (pad-place row)) v)) (pad_leads l p rd imm q words program is f n at.point.place at.point.regs at.point.priv at.point.tabs r.shared at.ok at.row)
   within-leads {n = n} sees (going p rd rs1 imm q is at) =
       flow at by_row (jalr_leads l p rd rs1 imm q program is n at.point.place at.point.regs at.point.priv at.point.tabs r.shared at.ok at.row)
     where
@@ -517,15 +511,15 @@ module _ (w : World) (a : Accepted w) (x : Answer) (r : Run) (z : Sized (stock_o
 
       by_row : (s : Point) (k : ℕ) → is_inner s.place ≡ true → JalrsRow l p rd rs1 imm q s.place s.regs s.priv s.tabs k → Sees l (block_at l p) after s after.shared → TableOk l s.tabs
           → Within w bytes program (does p (Jalr rd rs1 imm) q) after k × Inner l after.hart.pc (does p (Jalr rd rs1 imm) q)
-      by_row s k inner (inl row) v ok = (going p rd rs1 imm q is (next at s v ok row), inner-at s inner (inl refl) v)
+      by_row s k inner (inl row) v ok = (going p rd rs1 imm q is (step-to w a x r z at s v ok row), inner-at s inner (inl refl) v)
       by_row s k inner (inr (enters, row)) v ok = (jumps s k enters row v ok, inner-at s inner (inl refl) v)
   within-leads {n = n} sees (jumping p rd rs1 imm q base words is fits at) =
-      flow at (λ s k inner row v ok. (jumping p rd rs1 imm q base words is fits (next at s v ok row), inner-pad base s at.code.lawful (jump-place row) v))
+      flow at (λ s k inner row v ok. (jumping p rd rs1 imm q base words is fits (step-to w a x r z at s v ok row), inner-pad base s at.code.lawful (jump-place row) v))
       (jump_follows l p rd rs1 imm q base words program is fits n at.point.place at.point.regs at.point.priv at.point.tabs r.shared at.ok at.row)
   within-leads {n = n} sees (parking p i q is c at) =
-      flow at (λ s k inner row v ok. (parking p i q is c (next at s v ok row), inner-at s inner (inl (stops-no_call c)) v)) (park_leads l p i q program is c n at.point.place at.point.regs at.point.priv at.point.tabs r.shared at.ok at.row)
+      flow at (λ s k inner row v ok. (parking p i q is c (step-to w a x r z at s v ok row), inner-at s inner (inl (stops-no_call c)) v)) (park_leads l p i q program is c n at.point.place at.point.regs at.point.priv at.point.tabs r.shared at.ok at.row)
   within-leads {n = n} sees (guarded q at) =
-      settles (λ s k less inner row v ok. wrong (sym (park-first row.0) ∙ inner)) (λ p s y has. absurd y) (λ cause t m why. leaves_text why.0)
+      settles (λ s k less inner row v ok. false_true (sym (park-first row.0) ∙ inner)) (λ p s y has. absurd y) (λ cause t m why. leaves_text why.0)
       (landed w a x r z at (guard_leads l q program n at.point.place at.point.regs at.point.priv at.point.tabs r.shared at.ok at.row))
   within-leads {n = n} sees (loading p op rd rs1 imm q is at) =
       let given : Option ℕ = known_from bytes (plus_int (get rs1 q) imm) (load_width op) in
@@ -533,7 +527,7 @@ module _ (w : World) (a : Accepted w) (x : Answer) (r : Run) (z : Sized (stock_o
       load_leads l p op rd rs1 imm q given program is n at.point.place at.point.regs at.point.priv at.point.tabs r.shared at.ok
       (λ e. known-loaded bytes (seen at.point.tabs r.shared program) (sees p rd rs1 op imm q refl at.point.tabs at.shown.tabs) (plus_int (get rs1 q) imm) (load_width op)) at.row in
       let quiet : IsQuiet w r = quiet-by at IsLeft not-left (λ s m k row. same-left row.1.memory) (λ p s m y. same-left y.1.memory) d in
-      settles (λ s k less inner row v ok. goes k less (loading p op rd rs1 imm q is (next at s v ok row.0)) (all row.1.memory) (inner-at s inner (inl refl) v) quiet)
+      settles (λ s k less inner row v ok. goes k less (loading p op rd rs1 imm q is (step-to w a x r z at s v ok row.0)) (all row.1.memory) (inner-at s inner (inl refl) v) quiet)
       (λ p s y has. (loads y.0 y.1.memory, quiet)) (λ cause t m why. load_faults why.0) (landed w a x r z at d)
   within-leads {n = n} sees (storing p op rs1 rs2 imm q t0 is at) =
       let d = store_leads l p op rs1 rs2 imm q bytes program t0 is (λ b v e c g h. program-small c) n at.point.place at.point.regs at.point.priv at.point.tabs r.shared at.ok at.row in
@@ -541,19 +535,19 @@ module _ (w : World) (a : Accepted w) (x : Answer) (r : Run) (z : Sized (stock_o
       quiet-by at (λ m. (b : ℕ) → b < table_start → m b ≡ r.shared b) (λ f. not-raised r.shared 0 (f 0 (lit< tt))) (λ s m k row. row.1.below) (λ p s m y. y.1.below) d in
       settles
       (λ s k less inner row v ok.
-      goes k less (storing p op rs1 rs2 imm q t0 is (next at s v ok row.0)) (copies (copies-kept at.point.tabs s.tabs r.shared after.shared at.shown.tabs v.tabs row.1.copies)) (inner-at s inner (inl refl) v) quiet)
+      goes k less (storing p op rs1 rs2 imm q t0 is (step-to w a x r z at s v ok row.0)) (copies (copies-kept at.point.tabs s.tabs r.shared after.shared at.shown.tabs v.tabs row.1.copies)) (inner-at s inner (inl refl) v) quiet)
       (λ p s y has. (stores t0 y.0 (copies-kept at.point.tabs s.tabs r.shared after.shared at.shown.tabs has y.1.copies), quiet)) (λ cause t m why. store_parks bytes t0 why.0) (landed w a x r z at d)
   within-leads {n = n} sees (calling p q is at before) =
       let d = any_call-leads l p q program is r.shared at.ok at.row in
-      settles (λ s k less inner row v ok. called p q is at before (quiet d) s k less inner row v ok) (λ p s y has. wrong (sym before ∙ y)) (λ cause t m why. call_parks) (landed w a x r z at d)
+      settles (λ s k less inner row v ok. called p q is at before (quiet d) s k less inner row v ok) (λ p s y has. false_true (sym before ∙ y)) (λ cause t m why. call_parks) (landed w a x r z at d)
     where
       stays-so : {rs : Regs} {place : Place} {s : Priv} {t : Tabs} {m : Memory} {k : ℕ} → is_sixth at.point.place ≡ false → AnyCallNext l p q at.point.place at.point.tabs r.shared place rs s t m k → LeavesTables r.shared m
       stays-so e (any.word row first other leaves) = leaves
-      stays-so e (any.call answer from) = wrong (sym e ∙ ap is_sixth from)
+      stays-so e (any.call answer from) = false_true (sym e ∙ ap is_sixth from)
 
       quiet : Led l program (block_at l p) (AnyCallNext l p q at.point.place at.point.tabs r.shared) (λ target rs t m. is_seventh at.point.place ≡ true) (λ cause t m. ⊤) n (exec_some (block_at l p) (code l (block l p Ecall) at.point.place) at.point r.shared)
           → is_sixth at.point.place ≡ false → IsQuiet w r
-      quiet d e = quiet-by at (LeavesTables r.shared) (λ f. not-raised r.shared table_start (f table_start (omega arith))) (λ s m k row. stays-so e row) (λ p s m y. wrong (sym before ∙ y)) d
+      quiet d e = quiet-by at (LeavesTables r.shared) (λ f. not-raised r.shared table_start (f table_start (omega arith))) (λ s m k row. stays-so e row) (λ p s m y. false_true (sym before ∙ y)) d
   within-leads {n = n} sees (answered p answer q is at) = behind-call p answer q is at
   within-leads {n = n} sees (restarting site q base words is fits at) =
       let d = restart_leads l site q base words program is n at.point.place at.point.regs at.point.priv at.point.tabs r.shared at.ok at.row.1 at.row.0 in
@@ -561,7 +555,7 @@ module _ (w : World) (a : Accepted w) (x : Answer) (r : Run) (z : Sized (stock_o
     where
       stays-so : {rs : Regs} {place : Place} {s : Priv} {t : Tabs} {m : Memory} {k : ℕ} → is_hcall at.point.place ≡ false → RestartNext l site q at.point.place r.shared place rs s t m k → (b : ℕ) → b < table_start → m b ≡ r.shared b
       stays-so e (word row first leaves) = leaves
-      stays-so e (call answer new from small is_answered row) = wrong (sym e ∙ ap is_hcall from)
+      stays-so e (call answer new from small is_answered row) = false_true (sym e ∙ ap is_hcall from)
 
       quiet : Led l program base (RestartNext l site q at.point.place r.shared) (λ target rs t m. ⊥) (λ cause t m. ⊥) n (exec_some base (code l words at.point.place) at.point r.shared) → is_hcall at.point.place ≡ false → IsQuiet w r
       quiet d e = quiet-by at (λ m. (b : ℕ) → b < table_start → m b ≡ r.shared b) (λ f. not-raised r.shared 0 (f 0 (lit< tt))) (λ s m k row. stays-so e row) (λ p s m y. absurd y) d
@@ -569,16 +563,16 @@ module _ (w : World) (a : Accepted w) (x : Answer) (r : Run) (z : Sized (stock_o
       by_row : (is_hcall at.point.place ≡ false → IsQuiet w r) → (s : Point) (k : ℕ) → k < n → is_inner s.place ≡ true → RestartNext l site q at.point.place r.shared s.place s.regs s.priv s.tabs after.shared k → Sees l base after s after.shared → TableOk l s.tabs
           → LeadsOn (restarts site q) n
       by_row quiet s k less inner (word row first leaves) v ok =
-          goes k less (restarting site q base words is fits (next at s v ok (row, box_stays r.shared after.shared site q (λ b g h. leaves b (omega arith)) at.row.1))) clears
+          goes k less (restarting site q base words is fits (step-to w a x r z at s v ok (row, box_stays r.shared after.shared site q (λ b g h. leaves b (omega arith)) at.row.1))) clears
           (inner-pad base s at.code.lawful (inl (restart-place row)) v) (quiet first)
       by_row quiet s k less inner (call answer new from small is_answered row) v ok =
           let f : AtHcall l q at.point.regs at.point.tabs = at-hcall at.row.0 (ap is_hcall from) in
           turns k less (site + 4) new
           (asks_again answer at.point.regs at.point.tabs (fetched at (Hcall true) (ap (code l words) from)) at.shown.regs f.loaded at.shown.tabs f.fresh refl is_answered)
-          (unboxing site new base words is (record { lawful = fits.lawful; small = fits.small; place = fits.place; pad = fits.pad }) (next at s v ok row))
+          (unboxing site new base words is (record { lawful = fits.lawful; small = fits.small; place = fits.place; pad = fits.pad }) (step-to w a x r z at s v ok row))
           (inner-pad base s at.code.lawful (restarted-place row) v)
   within-leads {n = n} sees (unboxing site q base words is fits at) =
       let d = restarted_leads l site q base words program is fits n at.point.place at.point.regs at.point.priv at.point.tabs r.shared at.ok at.row in
       let quiet : IsQuiet w r = quiet-by at IsLeft not-left (λ s m k row. same-left row.1.memory) (λ p s m y. same-left y.same.memory) d in
-      settles (λ s k less inner row v ok. goes k less (unboxing site q base words is fits (next at s v ok row.0)) (all row.1.memory) (inner-pad base s at.code.lawful (restarted-place row.0) v) quiet)
+      settles (λ s k less inner row v ok. goes k less (unboxing site q base words is fits (step-to w a x r z at s v ok row.0)) (all row.1.memory) (inner-pad base s at.code.lawful (restarted-place row.0) v) quiet)
       (λ p s y has. (returns y.behind y.registers y.same.memory, quiet)) (λ cause t m why. last_site why.fault why.last) (landed w a x r z at d)

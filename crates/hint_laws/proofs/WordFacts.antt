@@ -1,4 +1,4 @@
--- What one word of a running shadow does to a run: what each leaves, when an arrival is counted, and what a park and an assumed call do.
+-- What one word of a running shadow does to a run: what each leaves, when an arrival is counted, which reads are filled, and what a park and an assumed call do.
 use Rattle.std.proofs.Common.{◌≡◌, ℕ, pos, ◌+◌, ◌%◌, Bool, true, false, ◌&&◌, ◌==◌, List, [], ◌∷◌, ◌++◌, Option, Some, None, refl, ◌∙◌, ap, sym, subst}
 use Rattle.std.specs.Prelude.{◌≢◌}
 use Rattle.spec_base.specs.Word.{word_of_int, plus_int}
@@ -22,6 +22,8 @@ use Rattle.program_model.specs.PlainRun.{State}
 use Rattle.run_model.specs.Run.{World, Run, ShadowHart, Answer, Usual, Took, Failed, Lost, rewritten_words}
 use Rattle.run_model.specs.ShadowMoves.{fetch_shadow, is_running, is_arrival, is_call_word, shadow_at, parked, arrived_if, word_counted, shadow_plan, assumed, assumed_with, look_assumed, hint_given, fill, fill_if, is_filled, shadow_stores, shadow_after, shadow_at_word, shadow_in, shadow_step}
 use Rattle.own_laws.proofs.Reached.{false_true}
+use Rattle.shadow_laws.proofs.Sound.{parked_running}
+use Rattle.shadow_laws.proofs.LinkSteps.{stores-go_on}
 use Rattle.mark_laws.specs.Agreement.{assumed_answer, is_exit, is_read}
 
 -- ---- what a word is said to do
@@ -95,14 +97,7 @@ CallDoes w u r next = PlanDoes w u r next (shadow_plan w r)
 
 -- ---- what can't be
 
--- a parked shadow doesn't run
-pub parked_running : {A : Type 0} {cause : Park} → Parked cause ≡ Running → A
-parked_running {A} e = absurd (no e)
-  where
-    no : {cause : Park} → Parked cause ≡ Running → ⊥
-    no e = cc
-
--- nor is a running one parked
+-- a running shadow isn't parked
 running_parked : {A : Type 0} {cause : Park} {s : ShadowState} → s ≡ Running → s ≡ Parked cause → A
 running_parked e f = parked_running (sym f ∙ e)
 
@@ -397,6 +392,37 @@ counted-stays : (r y : Run) (b : Bool) → HintsStay r y → HintsStay r (word_c
 counted-stays r y true h = record { hints = h.hints; filled = h.filled; files = h.files }
 counted-stays r y false h = record { hints = h.hints; filled = h.filled; files = h.files }
 
+-- ---- the numbers of the filled reads
+
+-- an assumed look fills nothing
+look-fills : (w : World) (x : Answer) (r : Run) (name : List ℕ) → (look_assumed w x r name).since.filled ≡ r.since.filled
+look-fills w Failed r name = refl
+look-fills w Usual r name = refl
+look-fills w (Took k) r name = refl
+look-fills w Lost r name = refl
+
+-- an assumed call leaves the numbers, or appends one
+plan-fills : (w : World) (x : Answer) (u : Bool) (r : Run) (plan : CallPlan) → (b : Bool) × ((assumed w x r u plan).since.filled ≡ filled_behind b r)
+plan-fills w x u r (Set f answer) = (false, refl)
+plan-fills w x u r (Look name) = (false, look-fills w x r name)
+plan-fills w x u r (Read d spot a) =
+    let does : PlanDoes w u r (assumed w x r u (Read d spot a)) (Read d spot a) = read-does w x u r d spot a in (is_filled w (hint_given u spot r) spot a spot.count, (does.reads d spot a refl).filled)
+plan-fills w x u r (Write to_out a n) = (false, refl)
+plan-fills w x u r (Exit code) = (false, refl)
+
+-- so does each outcome
+outcome-fills : (w : World) (x : Answer) (r : Run) (i : Instr) (y : Run) → Outcome w x r i y → (b : Bool) × (y.since.filled ≡ filled_behind b r)
+outcome-fills w x r i y (goes rs pc) = (false, refl)
+outcome-fills w x r i y (stores private a width v) = (false, (stores-stay private r a width v).filled)
+outcome-fills w x r i y faults = (false, refl)
+outcome-fills w x r i y (calls u e) = plan-fills w x u r (shadow_plan w r)
+outcome-fills w x r i y (parks cause e) = (false, refl)
+
+-- the counts leave them
+counted-fills : (r y : Run) (b c : Bool) → y.since.filled ≡ filled_behind c r → (word_counted (arrived_if b y)).since.filled ≡ filled_behind c r
+counted-fills r y true c e = e
+counted-fills r y false c e = e
+
 -- ---- parks
 
 -- a call that parks the shadow changes nothing else
@@ -423,15 +449,10 @@ call-halts w x r u (Read d spot a) cause e g = running_parked (ap (λ (h : Shado
 call-halts w x r u (Write to_out a n) cause e g = running_parked e g
 call-halts w x r u (Exit code) cause e g = record { hints = refl; filled = refl; files = refl; shared = refl; registers = refl; pc = refl }
 
--- a store leaves the state
-stores-run : (private : Bool) (r : Run) (a width v : ℕ) → (shadow_stores private r a width v).shadow.state ≡ r.shadow.state
-stores-run true r a width v = refl
-stores-run false r a width v = refl
-
 -- each outcome of the word that is fetched
 outcome-parks : (w : World) (x : Answer) (r : Run) (i : Instr) (y : Run) (cause : Park) → r.shadow.state ≡ Running → fetch_shadow w r.shadow.pc ≡ Some i → Outcome w x r i y → y.shadow.state ≡ Parked cause → Parks w r y
 outcome-parks w x r i y cause e f (goes rs pc) p = running_parked e p
-outcome-parks w x r i y cause e f (stores private a width v) p = running_parked (stores-run private r a width v ∙ e) p
+outcome-parks w x r i y cause e f (stores private a width v) p = running_parked (stores-go_on private r a width v ∙ e) p
 outcome-parks w x r i y cause e f faults p = record { hints = refl; filled = refl; files = refl; shared = refl; registers = refl; place = here refl }
 outcome-parks w x r i y cause e f (calls u g) p =
     let h : Halts r (assumed w x r u (shadow_plan w r)) = call-halts w x r u (shadow_plan w r) cause e p in
@@ -496,6 +517,12 @@ module _ (w : World) (x : Answer) (r : Run) where
   stays-at None h = record { hints = refl; filled = refl; files = refl }
   stays-at (Some i) h = counted-stays r (behind_word i) (counts i) (outcome-stays w x r i (behind_word i) h (word_comes i))
 
+  -- the same of the numbers of the filled reads
+  fills-at : (o : Option Instr) → (b : Bool) × ((word_counted (shadow_at_word w x r o)).since.filled ≡ filled_behind b r)
+  fills-at None = (false, refl)
+  fills-at (Some i) =
+      let f : (b : Bool) × ((behind_word i).since.filled ≡ filled_behind b r) = outcome-fills w x r i (behind_word i) (word_comes i) in (f.0, counted-fills r (behind_word i) (counts i) f.0 f.1)
+
   -- the same of a word that parks the shadow
   parks-at : (o : Option Instr) (cause : Park) → r.shadow.state ≡ Running → fetch_shadow w r.shadow.pc ≡ o → (word_counted (shadow_at_word w x r o)).shadow.state ≡ Parked cause
       → Parks w r (word_counted (shadow_at_word w x r o))
@@ -521,6 +548,10 @@ module _ (w : World) (x : Answer) (r : Run) where
   -- a word that is no HCALL leaves the hints
   pub word-hints_stay : r.shadow.state ≡ Running → is_call_word (fetch_shadow w r.shadow.pc) ≡ false → HintsStay r (shadow_step w x r)
   word-hints_stay e h = subst (λ (next : Run). HintsStay r next) (sym (step-is e (fetch_shadow w r.shadow.pc) refl)) (stays-at (fetch_shadow w r.shadow.pc) h)
+
+  -- each word leaves the numbers of the filled reads, or appends that of the instruction at hand
+  pub word-fills : r.shadow.state ≡ Running → (b : Bool) × ((shadow_step w x r).since.filled ≡ filled_behind b r)
+  word-fills e = subst (λ (next : Run). (b : Bool) × (next.since.filled ≡ filled_behind b r)) (sym (step-is e (fetch_shadow w r.shadow.pc) refl)) (fills-at (fetch_shadow w r.shadow.pc))
 
   -- a word that parks the shadow leaves the rest
   pub word-parks : (cause : Park) → r.shadow.state ≡ Running → (shadow_step w x r).shadow.state ≡ Parked cause → Parks w r (shadow_step w x r)

@@ -2,6 +2,7 @@
 use Rattle.std.proofs.Common.{◌≡◌, ℕ, zero, suc, Bool, true, false, not, ◌&&◌, Option, Some, None, refl, ◌∙◌, ap, ◌==◌}
 use Rattle.std.specs.Prelude.{IsTrue}
 use Rattle.std.proofs.Math.Path.{fun_ext}
+use Rattle.std.proofs.lemmas.Bool.{and_parts}
 use Rattle.spec_base.specs.Listed.{is_listed}
 use Rattle.spec_base.specs.Word.{plus_int}
 use Rattle.spec_base.specs.declared.layout.Layout.{Layout}
@@ -18,27 +19,21 @@ use Rattle.run_model.specs.Moves.{run}
 use Rattle.run_model.specs.Restarts.{Action, Loads, Stores, Reads, TakesName, Other, name_action, action_by, call_action, instr_action, instr_at, some_action, action, from_restart, nothing, read_leaves, unfilled_by, unfilled_with, unfilled, touches, before_horizon}
 use Rattle.run_model.specs.Marks.{Marks, with_mark, mark_register, marks_after_call, marks_after, marks_after_some, marks_with, marks, name_is_marked, is_use, some_use, before_use_with, before_use}
 use Rattle.run_model.specs.HintLaws.{UseIsAfterHorizon}
+use Rattle.own_laws.proofs.Reached.{false_true}
+use Rattle.mark_laws.proofs.OneInstruction.{true_false}
 
 -- ---- parts of what holds at once
 
 -- of two tests that both pass, each passes
 pub and_left : (a b : Bool) → IsTrue (a && b) → IsTrue a
-and_left true b h = refl
-and_left false b h = h
+and_left a b h = (and_parts a b h).0
 
 pub and_right : (a b : Bool) → IsTrue (a && b) → IsTrue b
-and_right true b h = h
-and_right false b h = absurd (no h)
-  where
-    no : false ≡ true → ⊥
-    no h = cc
+and_right a b h = (and_parts a b h).1
 
 -- a test whose opposite passes fails
 pub not_true : (a : Bool) → IsTrue (not a) → a ≡ false
-not_true true h = absurd (no h)
-  where
-    no : false ≡ true → ⊥
-    no h = cc
+not_true true h = false_true h
 not_true false h = refl
 
 -- ---- one instruction, where no register is marked
@@ -58,10 +53,7 @@ clear_none (suc n) = fun_ext (λ k. same (k == suc n))
 
 -- a register that isn't marked is cleared
 mark_none : (u : ℕ → Bool) (rd : ℕ) (marked : Bool) → marked ≡ false → mark_register (bytes_alone u) rd marked ≡ bytes_alone u
-mark_none u rd true h = absurd (no h)
-  where
-    no : true ≡ false → ⊥
-    no h = cc
+mark_none u rd true h = true_false h
 mark_none u rd false h = ap (λ (f : ℕ → Bool). record { registers = f; bytes = u }) (clear_none rd)
 
 -- a call is a read, takes a name, or does neither

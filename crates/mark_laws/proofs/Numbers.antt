@@ -15,15 +15,22 @@ use Rattle.mark_laws.proofs.Horizons.{and_left}
 
 -- ---- lists of numbers
 
+-- a number behind others
+pub is_listed-append : (numbers : List ℕ) (k n : ℕ) → is_listed (numbers ++ k ∷ []) n ≡ (is_listed numbers n || (k == n))
+is_listed-append numbers k n = list_any-append (λ (m : ℕ). m == n) numbers (k ∷ []) ∙ last (is_listed numbers n) (k == n)
+  where
+    last : (b c : Bool) → (b || (c || false)) ≡ (b || c)
+    last true c = refl
+    last false true = refl
+    last false false = refl
+
 -- a later number says nothing of an earlier one
 pub is_listed-later : (numbers : List ℕ) (k n : ℕ) → n < k → is_listed (numbers ++ k ∷ []) n ≡ is_listed numbers n
-is_listed-later numbers k n l =
-    list_any-append (λ (m : ℕ). m == n) numbers (k ∷ []) ∙ no_more (is_listed numbers n) (k == n) (grind (arith, nat_tests))
+is_listed-later numbers k n l = is_listed-append numbers k n ∙ no_more (is_listed numbers n) (k == n) (grind (arith, nat_tests))
   where
-    no_more : (a b : Bool) → b ≡ false → (a || (b || false)) ≡ a
+    no_more : (a b : Bool) → b ≡ false → (a || b) ≡ a
     no_more true b e = refl
-    no_more false true e = cc
-    no_more false false e = refl
+    no_more false b e = e
 
 -- numbers with a later one are alike
 pub alike-later : (i k : ℕ) (r : Run) (numbers : List ℕ) → i < k → Alike i r r numbers (numbers ++ k ∷ [])

@@ -89,21 +89,21 @@ flow-leads p files filled m q i new target leads bytes =
 -- ---- instructions that load and store nothing
 
 -- a trap doesn't go on
-traps_on : {A : Type 0} {t : Trap} {rs : Registers} {pc : ℕ} → Trapped t ≡ Next rs pc → A
+pub traps_on : {A : Type 0} {t : Trap} {rs : Registers} {pc : ℕ} → Trapped t ≡ Next rs pc → A
 traps_on {A} {t} {rs} {pc} e = absurd (no e)
   where
     no : Trapped t ≡ Next rs pc → ⊥
     no e = cc
 
 -- nor does a call
-calls_on : {A : Type 0} {rs : Registers} {pc : ℕ} → Called ≡ Next rs pc → A
+pub calls_on : {A : Type 0} {rs : Registers} {pc : ℕ} → Called ≡ Next rs pc → A
 calls_on {A} {rs} {pc} e = absurd (no e)
   where
     no : Called ≡ Next rs pc → ⊥
     no e = cc
 
 -- nor a store, whatever its tests say
-stores_on : {A : Type 0} {rs : Registers} {pc : ℕ} (whole inside : Bool) (a width v : ℕ) → store_if whole inside a width v ≡ Next rs pc → A
+pub stores_on : {A : Type 0} {rs : Registers} {pc : ℕ} (whole inside : Bool) (a width v : ℕ) → store_if whole inside a width v ≡ Next rs pc → A
 stores_on {A} {rs} {pc} false inside a width v e = traps_on e
 stores_on {A} {rs} {pc} true false a width v e = traps_on e
 stores_on {A} {rs} {pc} true true a width v e = absurd (no e)

@@ -10,6 +10,7 @@ use Rattle.rv_model.specs.Memory.{Memory, stored}
 use Rattle.rv_model.specs.Effect.{even}
 use Rattle.code_model.specs.Blocks.{block}
 use Rattle.code_model.specs.Places.{block_at, APPEND}
+use Rattle.own_laws.proofs.Reached.{false_true}
 use Rattle.side_model.specs.Hart.{Regs, put, Priv}
 use Rattle.side_model.specs.Tables.{Tabs, TableOk}
 use Rattle.side_model.specs.Places.{Away, Appending, LogFullUp, Place, InBlock, InHelper, code}
@@ -44,13 +45,6 @@ abbrev pub is_seventh : Place → Bool
 is_seventh (InBlock n) = n == 7
 is_seventh (InHelper h n) = false
 is_seventh (Away b) = false
-
--- false isn't true
-wrong : {A : Type 0} → false ≡ true → A
-wrong {A} e = absurd (no e)
-  where
-    no : false ≡ true → ⊥
-    no e = cc
 
 module _ (l : Layout) (p : ℕ) (q : Regs) where
   -- where APPEND returns to: word 4
@@ -120,37 +114,37 @@ module _ (l : Layout) (p : ℕ) (q : Regs) where
   -- at the HCALL the registers are the program's
   pub at-call : {place : Place} {rs : Regs} {s : Priv} {t : Tabs} {k : ℕ} → AnyCallRow place rs s t k → is_sixth place ≡ true → rs ≡ q
   at-call (b6 s) e = refl
-  at-call (b1 s) e = wrong e
-  at-call (b2 s) e = wrong e
-  at-call (b3 s) e = wrong e
-  at-call (a1 s) e = wrong e
-  at-call (a2 s) e = wrong e
-  at-call (a3 s) e = wrong e
-  at-call (a4 key s) e = wrong e
-  at-call (a5 v s) e = wrong e
-  at-call (a6 v s) e = wrong e
-  at-call (a7 v s) e = wrong e
-  at-call (a8 v s) e = wrong e
-  at-call (a9 v s) e = wrong e
-  at-call (a10 w v s) e = wrong e
-  at-call (a11 w v s) e = wrong e
-  at-call (a12 w v s) e = wrong e
-  at-call (a13 w v s) e = wrong e
-  at-call (a14 k v s) e = wrong e
-  at-call (a15 k v s) e = wrong e
-  at-call (a16 k v s) e = wrong e
-  at-call (a17 k v s) e = wrong e
-  at-call (a18 k v s) e = wrong e
-  at-call (a19 w v s) e = wrong e
-  at-call (a20 w v s) e = wrong e
-  at-call (a21 w v s) e = wrong e
-  at-call (a22 w u v s) e = wrong e
-  at-call (a23 u v s) e = wrong e
-  at-call (a24 v s) e = wrong e
-  at-call (b4 u v s) e = wrong e
-  at-call (b5 v s) e = wrong e
-  at-call (b7 answer s) e = wrong e
-  at-call (full rs s) e = wrong e
+  at-call (b1 s) e = false_true e
+  at-call (b2 s) e = false_true e
+  at-call (b3 s) e = false_true e
+  at-call (a1 s) e = false_true e
+  at-call (a2 s) e = false_true e
+  at-call (a3 s) e = false_true e
+  at-call (a4 key s) e = false_true e
+  at-call (a5 v s) e = false_true e
+  at-call (a6 v s) e = false_true e
+  at-call (a7 v s) e = false_true e
+  at-call (a8 v s) e = false_true e
+  at-call (a9 v s) e = false_true e
+  at-call (a10 w v s) e = false_true e
+  at-call (a11 w v s) e = false_true e
+  at-call (a12 w v s) e = false_true e
+  at-call (a13 w v s) e = false_true e
+  at-call (a14 k v s) e = false_true e
+  at-call (a15 k v s) e = false_true e
+  at-call (a16 k v s) e = false_true e
+  at-call (a17 k v s) e = false_true e
+  at-call (a18 k v s) e = false_true e
+  at-call (a19 w v s) e = false_true e
+  at-call (a20 w v s) e = false_true e
+  at-call (a21 w v s) e = false_true e
+  at-call (a22 w u v s) e = false_true e
+  at-call (a23 u v s) e = false_true e
+  at-call (a24 v s) e = false_true e
+  at-call (b4 u v s) e = false_true e
+  at-call (b5 v s) e = false_true e
+  at-call (b7 answer s) e = false_true e
+  at-call (full rs s) e = false_true e
 
   module _ (program : Memory) (is : IsSite l p) where
     abbrev led : Place → Tabs → Memory → ℕ → Out → Type 0

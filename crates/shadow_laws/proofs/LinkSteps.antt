@@ -19,6 +19,7 @@ use Rattle.code_model.specs.Places.{block_at}
 use Rattle.run_model.specs.Run.{World, Run, Answer, rewritten_words}
 use Rattle.run_model.specs.ShadowMoves.{shadow_step, shadow_in, shadow_after, shadow_at_word, shadow_stores, arrived_if, word_counted, is_running, is_arrival, fetch_shadow}
 use Rattle.run_model.specs.OwnLaws.{Accepted}
+use Rattle.own_laws.proofs.Reached.{false_true, none_some}
 use Rattle.side_model.specs.Hart.{Regs, Priv}
 use Rattle.side_model.specs.Tables.{Tabs}
 use Rattle.side_model.specs.Places.{Place, Jumping, Faulting, address, code}
@@ -27,6 +28,7 @@ use Rattle.side_model.specs.Rows.{Led}
 use Rattle.side_model.specs.Sees.{Shade, shade_of, Landed, goes_on, arrived, parked}
 use Rattle.side_model.specs.JumpRows.{JumpRow, j1, j2, j3, j4, j5, j6, j7, j8, j9, j10, j11, j12, j13, j14, j15, j16, lands, faults, JumpFits}
 use Rattle.side_model.proofs.Fetching.{Fetches, code-fetches}
+use Rattle.side_model.proofs.JumpWords.{jump_leads}
 use Rattle.rows_access.proofs.LoadWords.{load_leads}
 use Rattle.rows_access.proofs.StoreWords.{store_leads}
 use Rattle.rows_access.proofs.StoreChanges.{store_keeps}
@@ -42,18 +44,10 @@ use Rattle.rows_log.specs.RestartRows.{RestartNext, word, call}
 use Rattle.rows_log.proofs.LinkLeft.{helpers-store_not, words-leave_link}
 use Rattle.rows_log.proofs.RestartWords.{restart_leads, restarted_leads}
 use Rattle.shadow_laws.proofs.ShadowNumbers.{Sized, stock_of}
-use Rattle.shadow_laws.proofs.Sound.{CallRows, bare, PadAt, at_pad, unknown, At, Sound, computing, quartering, branching, linking, going, jumping, padded, parking, guarded, loading, storing, calling, restarting, unboxing}
+use Rattle.shadow_laws.proofs.Sound.{CallRows, bare, PadAt, at_pad, unknown, At, Sound, computing, quartering, branching, linking, going, jumping, padded, parking, guarded, loading, storing, calling, restarting, unboxing, parked_running}
 use Rattle.shadow_laws.proofs.SoundSteps.{landed, pad-leads}
-use Rattle.side_model.proofs.JumpWords.{jump_leads}
 
 -- ---- words that aren't stores
-
--- false isn't true
-wrong : {A : Type 0} → false ≡ true → A
-wrong {A} e = absurd (no e)
-  where
-    no : false ≡ true → ⊥
-    no e = cc
 
 -- the words of JUMP, and of the pad behind it
 jump-quiet : {l : Layout} {at : ℕ} {q : Regs} {base : ℕ} {words : List Instr} {place : Place} {rs : Regs} {p : Priv} {t : Tabs} {n : ℕ} → JumpFits l at q base words → JumpRow l at q place rs p t n
@@ -84,11 +78,13 @@ pad-quiet l words f (at_pad rs s) i e = let is : Some (ld 31 X31 0) ≡ Some i =
 
 -- ---- a store that parks has stored nothing
 
+-- an arrival and a word are counted, and the shadow's part is left
 counted-shade : (b : Bool) (r : Run) → shade_of (word_counted (arrived_if b r)) ≡ shade_of r
 counted-shade true r = refl
 counted-shade false r = refl
 
-stores-go_on : (b : Bool) (r : Run) (a width v : ℕ) → (shade_of (shadow_stores b r a width v)).hart.state ≡ r.shadow.state
+-- a store leaves the state
+pub stores-go_on : (b : Bool) (r : Run) (a width v : ℕ) → (shade_of (shadow_stores b r a width v)).hart.state ≡ r.shadow.state
 stores-go_on true r a width v = refl
 stores-go_on false r a width v = refl
 
@@ -107,28 +103,28 @@ module _ (w : World) (x : Answer) (r : Run) where
   store-stores (Store op rs1 rs2 imm) e =
       let a : ℕ = plus_int (reg r.shadow.registers rs1) imm in
       store_if-stores (a % store_width op == 0) (all_from (shadow_rights w.image.layout).store a (store_width op)) a (store_width op) (reg r.shadow.registers rs2)
-  store-stores (Lui rd imm) e = wrong e
-  store-stores (Auipc rd imm) e = wrong e
-  store-stores (Jal rd imm) e = wrong e
-  store-stores (Jalr rd rs1 imm) e = wrong e
-  store-stores (Branch op rs1 rs2 imm) e = wrong e
-  store-stores (Load op rd rs1 imm) e = wrong e
-  store-stores (OpImm op rd rs1 imm) e = wrong e
-  store-stores (OpImmW op rd rs1 imm) e = wrong e
-  store-stores (Op op rd rs1 rs2) e = wrong e
-  store-stores (OpW op rd rs1 rs2) e = wrong e
-  store-stores (Fence number) e = wrong e
-  store-stores Ecall e = wrong e
-  store-stores Ebreak e = wrong e
-  store-stores Hgate e = wrong e
-  store-stores Hleave e = wrong e
-  store-stores (Hsite rd) e = wrong e
-  store-stores (Hkey rd) e = wrong e
-  store-stores Hstop e = wrong e
-  store-stores Hrestart e = wrong e
-  store-stores (Hcall unhinted) e = wrong e
-  store-stores (Hpark cause) e = wrong e
-  store-stores Illegal e = wrong e
+  store-stores (Lui rd imm) e = false_true e
+  store-stores (Auipc rd imm) e = false_true e
+  store-stores (Jal rd imm) e = false_true e
+  store-stores (Jalr rd rs1 imm) e = false_true e
+  store-stores (Branch op rs1 rs2 imm) e = false_true e
+  store-stores (Load op rd rs1 imm) e = false_true e
+  store-stores (OpImm op rd rs1 imm) e = false_true e
+  store-stores (OpImmW op rd rs1 imm) e = false_true e
+  store-stores (Op op rd rs1 rs2) e = false_true e
+  store-stores (OpW op rd rs1 rs2) e = false_true e
+  store-stores (Fence number) e = false_true e
+  store-stores Ecall e = false_true e
+  store-stores Ebreak e = false_true e
+  store-stores Hgate e = false_true e
+  store-stores Hleave e = false_true e
+  store-stores (Hsite rd) e = false_true e
+  store-stores (Hkey rd) e = false_true e
+  store-stores Hstop e = false_true e
+  store-stores Hrestart e = false_true e
+  store-stores (Hcall unhinted) e = false_true e
+  store-stores (Hpark cause) e = false_true e
+  store-stores Illegal e = false_true e
 
   -- where a store leads
   step-stores : (i : Instr) → r.shadow.state ≡ Running → fetch_shadow w r.shadow.pc ≡ Some i → stores_out i ≡ true → Stores (shade_of (shadow_step w x r))
@@ -173,12 +169,9 @@ module _ (w : World) (a : Accepted w) (x : Answer) (r : Run) (z : Sized (stock_o
       parks {cause} i e b state =
           let f : Fetches w (address base at.point.place) i = code-fetches w base words at.point.place i at.code e in by_store (step-stores w x r i at.shown.running (ap (fetch_shadow w) at.shown.pc ∙ f.word) b)
         where
-          never : Running ≡ Parked cause → ⊥
-          never e = cc
-
           by_store : (after.shared ≡ r.shared) ⊎ (after.hart.state ≡ r.shadow.state) → X
           by_store (inl e) = keeps (λ b g. ap (λ (m : Memory). m b) e)
-          by_store (inr e) = absurd (never (sym at.shown.running ∙ sym e ∙ state))
+          by_store (inr e) = parked_running (sym state ∙ e ∙ at.shown.running)
 
       by_landing : (i : Instr) → code l words at.point.place ≡ Some i → stores_out i ≡ true → Landed l base Row' Arrives Why n after → X
       by_landing i e b (goes_on k s m row ok less inner v) = rows i e b s k (subst (λ m. Row' s.place s.regs s.priv s.tabs m k) (sym v.shared) row)
@@ -197,13 +190,6 @@ module _ (w : World) (a : Accepted w) (x : Answer) (r : Run) (z : Sized (stock_o
   -- the same memory leaves the link
   kept : after.shared ≡ r.shared → LeavesLink r.shared after.shared
   kept e b g = ap (λ (m : Memory). m b) e
-
-  -- no byte is known, so that the program's may be any
-  none-known : {A : Type 0} (b v : ℕ) → unknown b ≡ Some v → A
-  none-known {A} b v e = absurd (no e)
-    where
-      no : None ≡ Some v → ⊥
-      no e = cc
 
   -- ---- each row
 
@@ -241,8 +227,8 @@ module _ (w : World) (a : Accepted w) (x : Answer) (r : Run) (z : Sized (stock_o
       (λ i e b s k row. keeps (kept row.1.memory)) (λ to s y. keeps (kept y.1.memory))
   link-steps {n = n} keeps calls (storing p op rs1 rs2 imm q t0 is at) =
       stored-by keeps at
-      (store_leads l p op rs1 rs2 imm q unknown program t0 is (λ b v e. none-known b v e) n at.point.place at.point.regs at.point.priv at.point.tabs r.shared at.ok
-      (store_keeps l p op rs1 rs2 imm q unknown zeros program t0 n at.point.place at.point.regs at.point.priv at.point.tabs r.shared r.shared (λ b u g h none e. none-known b u e) (λ b g. refl) at.row))
+      (store_leads l p op rs1 rs2 imm q unknown program t0 is (λ b v e. none_some e) n at.point.place at.point.regs at.point.priv at.point.tabs r.shared at.ok
+      (store_keeps l p op rs1 rs2 imm q unknown zeros program t0 n at.point.place at.point.regs at.point.priv at.point.tabs r.shared r.shared (λ b u g h none e. none_some e) (λ b g. refl) at.row))
       (λ i e b s k row. keeps row.1.below) (λ to s y. keeps y.1.below)
   link-steps {n = n} keeps calls (calling p q is at) = calls p q is at
   link-steps {X} {n = n} keeps calls (restarting site q base words is fits at) =
@@ -252,7 +238,7 @@ module _ (w : World) (a : Accepted w) (x : Answer) (r : Run) (z : Sized (stock_o
       by_row i e b s k (word row other leaves) = keeps leaves
       by_row i e b s k (call answer answered from small is_answered row) =
           let is : Some (Hcall true) ≡ Some i = ap (code l words) (sym from) ∙ e in
-          let same : Hcall true ≡ i = cc in wrong (subst (λ (j : Instr). stores_out j ≡ true) (sym same) b)
+          let same : Hcall true ≡ i = cc in false_true (subst (λ (j : Instr). stores_out j ≡ true) (sym same) b)
   link-steps {n = n} keeps calls (unboxing site q base words is fits at) =
       stored-by keeps at (restarted_leads l site q base words program is fits n at.point.place at.point.regs at.point.priv at.point.tabs r.shared at.ok at.row)
       (λ i e b s k row. keeps (kept row.1.memory)) (λ to s y. keeps (kept (y.same).memory))

@@ -4,7 +4,6 @@ use Rattle.std.specs.Prelude.{◌≢◌}
 use Rattle.spec_base.specs.Layout.{link_start}
 use Rattle.spec_base.specs.declared.note.ShadowState.{ShadowState}
 use Rattle.spec_base.specs.declared.note.ShadowState.TheVariants.{Never, Running, Stopped, Parked}
-use Rattle.spec_base.specs.declared.park.Park.{Park}
 use Rattle.rv_decode.specs.declared.instr.LoadOp.TheVariants.{Ld}
 use Rattle.rv_model.specs.Memory.{Memory, stored}
 use Rattle.rv_model.proofs.Results.{load-small}
@@ -23,7 +22,7 @@ use Rattle.shadow_laws.proofs.LoggedSteps.{logged_calls, Appending, logged-appen
 use Rattle.shadow_laws.proofs.OwnShades.{Watched, watched_of, OwnShade, same, links, halts, begins}
 use Rattle.shadow_laws.proofs.ShadowNumbers.{Sized, stock_of}
 use Rattle.shadow_laws.proofs.ShadowRuns.{HasTables, restart-sound, resting-stays}
-use Rattle.shadow_laws.proofs.Sound.{Sound, Lands, goes, reaches}
+use Rattle.shadow_laws.proofs.Sound.{Sound, Lands, goes, reaches, stopped_running, never_running, parked_running}
 use Rattle.shadow_laws.proofs.Sound as landing
 
 -- a running shadow stands at a row, its calls with their keys, and the log is a queue unless the shadow is stopped; k moves are made
@@ -35,19 +34,6 @@ pub record Logged (w : World) (h : Shade) (k : ℕ) : Type 0 where
 pub record ShadowMoved (w : World) (r next : Run) (k : ℕ) : Type 0 where
   pub logged : Logged w (shade_of next) (k + 1)
   pub appends : Appends r.shared next.shared
-
--- the states are different
-running_stopped : Running ≡ Stopped → ⊥
-running_stopped e = cc
-
-stopped_running : Stopped ≡ Running → ⊥
-stopped_running e = cc
-
-never_running : Never ≡ Running → ⊥
-never_running e = cc
-
-parked_running : {cause : Park} → Parked cause ≡ Running → ⊥
-parked_running e = cc
 
 module _ (w : World) (a : Accepted w) where
   -- the tail is a number of 64 bits
@@ -66,7 +52,7 @@ module _ (w : World) (a : Accepted w) where
 
     running-moves : r.shadow.state ≡ Running → ShadowMoved w r moved k
     running-moves e =
-        let q : IsQueue r.shared × (log_tail r.shared ≤ k) = g.queue (λ s. running_stopped (sym e ∙ s)) in
+        let q : IsQueue r.shared × (log_tail r.shared ≤ k) = g.queue (λ s. stopped_running (sym s ∙ e)) in
         let small : log_tail r.shared < 2 ^ 64 - 1 = omega (arith, q.1, few) in
         let h = g.place e in
         by_landing q (logged-appends w a x r z q.0 small h.1) (logged-steps w a x r z q.0 small words h.1)
@@ -77,7 +63,7 @@ module _ (w : World) (a : Accepted w) where
         by_landing q y (reaches p b e j most s) =
             record { logged = record { place = λ e. (j, s); queue = λ n. (y.keeps.queue, omega (arith, y.one, q.1)) }; appends = y.keeps.appends }
         by_landing q y (landing.halts cause state t has ok) =
-            record { logged = record { place = λ e. absurd (parked_running (sym state ∙ e)); queue = λ n. (y.keeps.queue, omega (arith, y.one, q.1)) }; appends = y.keeps.appends }
+            record { logged = record { place = λ e. parked_running (sym state ∙ e); queue = λ n. (y.keeps.queue, omega (arith, y.one, q.1)) }; appends = y.keeps.appends }
 
     resting-moves : r.shadow.state ≢ Running → ShadowMoved w r moved k
     resting-moves n =
@@ -115,7 +101,7 @@ module _ (w : World) (a : Accepted w) where
       })
   linked-logged r next k m g z (is_halted s) is =
       let state : next.shadow.state ≡ Stopped = ap (λ (h : Shade). h.hart.state) is ∙ s in
-      record { place = λ f. absurd (stopped_running (sym state ∙ f)); queue = λ n. absurd (n state) }
+      record { place = λ f. stopped_running (sym state ∙ f); queue = λ n. absurd (n state) }
 
   -- each own move in the stub keeps what is so of the log
   pub own-logged : (r next : Run) (k : ℕ) → OwnShade r next → TakesOldest r next → HasTables w (watched_of r) → Sized (stock_of r) → (next.restarts ≢ r.restarts → IsSite w.image.layout r.at_gate.pc × RestartsFromBox r next)
@@ -124,7 +110,7 @@ module _ (w : World) (a : Accepted w) where
   own-logged r next k (links b width v low e) takes y z box g = linked-logged r next k _ g z takes (ap (λ (s : Watched). s.shade) e)
   own-logged r next k (halts e) takes y z box g =
       let state : next.shadow.state ≡ Stopped = ap (λ (s : Watched). s.shade.hart.state) e in
-      record { place = λ f. absurd (stopped_running (sym state ∙ f)); queue = λ n. absurd (n state) }
+      record { place = λ f. stopped_running (sym state ∙ f); queue = λ n. absurd (n state) }
   own-logged r next k (begins v e) takes y z box g =
       let more : next.restarts ≡ r.restarts + 1 = ap (λ (s : Watched). s.restarts) e in
       let b : IsSite w.image.layout r.at_gate.pc × RestartsFromBox r next = box (λ f. absurd (omega (arith, more, f))) in

@@ -1,23 +1,25 @@
 -- In every run of fewer than 2^64 - 1 moves the hint log is a queue while the shadow isn't stopped, and the shadow only appends to it.
-use Rattle.std.proofs.Common.{◌≡◌, ℕ, zero, suc, ◌+◌, ◌-◌, ◌^◌, ◌<◌, ◌⊎◌, inl, inr, Bool, true, false, List, [], ◌∷◌, ◌++◌, length, Option, Some, None, refl, ◌∙◌, ap, sym, subst, arith, drop}
+use Rattle.std.proofs.Common.{◌≡◌, ℕ, ◌+◌, ◌-◌, ◌^◌, ◌<◌, ◌⊎◌, inl, inr, Bool, true, false, List, [], ◌∷◌, ◌++◌, length, Option, Some, None, refl, ◌∙◌, ap, sym, subst, arith, drop}
 use Rattle.std.specs.Prelude.{◌≢◌}
 use Rattle.std.proofs.lemmas.List.{length-append, append-nil, append_assoc}
 use Rattle.spec_base.specs.declared.machine.View.TheVariants.{Program, Stub}
-use Rattle.spec_base.specs.declared.note.ShadowState.TheVariants.{Never, Running}
 use Rattle.spec_base.specs.declared.note.Move.{Move}
 use Rattle.spec_base.specs.declared.note.Move.TheVariants.{O, S, T, D}
 use Rattle.spec_base.specs.declared.note.Note.{Note}
 use Rattle.spec_base.specs.declared.spot.BlockSpot.{BlockSpot}
 use Rattle.spec_base.specs.declared.spot.ReadSpot.{ReadSpot}
-use Rattle.rv_model.specs.Memory.{Memory, zeros, loaded}
+use Rattle.rv_model.specs.Memory.{Memory, zeros}
 use Rattle.rv_model.specs.Effect.{fetched}
+use Rattle.rv_model.proofs.Loads.{loaded-stored}
 use Rattle.program_model.specs.Cache.{Gathered, gather, blocks_of, in_flight}
 use Rattle.program_model.specs.Calls.{CallPlan, Set, Look, Read, Write, Exit}
+use Rattle.program_model.specs.PlainRun.{State}
 use Rattle.code_model.specs.Log.{log_head, log_tail}
 use Rattle.run_model.specs.Run.{World, Run, RunEnd, Answer, Usual, Took, Failed, Lost, opened_run, rewritten_text}
 use Rattle.run_model.specs.OwnMoves.{own_step, own_unless, own_in, own_call_step, read_on, look_done, write_step}
 use Rattle.run_model.specs.Moves.{Moves, step, step_unless, begun, silent, run, run_from, fetch_of, fetch_ends, fetch_failed, landed_with, shadow_while}
 use Rattle.run_model.specs.OwnLaws.{Accepted, IsShadowMove}
+use Rattle.run_model.specs.ShadowMoves.{shadow_step}
 use Rattle.own_laws.specs.StubLaws.{Appends, IsLog, IsLeaving, Passing, TakesOldest, RestartsFromBox, IsPassage, Outcome, keyless, takes, empties, without_oldest}
 use Rattle.own_laws.proofs.HeldRuns.{restart_has_box}
 use Rattle.own_laws.proofs.InvisibleShadow.{shadow_move-keeps}
@@ -30,17 +32,15 @@ use Rattle.own_laws.proofs.Reached.{none_some, reached-fits}
 use Rattle.own_laws.proofs.Side.{side_of, with_side, Kept}
 use Rattle.own_laws.proofs.StubWords.{stub_side}
 use Rattle.own_laws.proofs.StubRows.{WordGoes, to_row, to_restarted, to_call, word_goes}
-use Rattle.rv_model.proofs.Loads.{loaded-stored}
+use Rattle.own_laws.proofs.Bounds.{Words}
 use Rattle.side_model.specs.Sees.{Shade, shade_of}
 use Rattle.rows_log.specs.CallRows.{IsSite}
 use Rattle.shadow_laws.specs.LogLaws.{LogIsQueue, ShadowAppends, StaysInStub, LogIsKept}
-use Rattle.own_laws.proofs.Bounds.{Words}
-use Rattle.run_model.specs.ShadowMoves.{shadow_step}
 use Rattle.shadow_laws.proofs.LogMoves.{Logged, ShadowMoved, one-more, shadow-moves, same-logged, own-logged, tail-small}
 use Rattle.shadow_laws.proofs.OwnShades.{Watched, watched_of, OwnShade, same, links, halts, begins, own-shade, fetch-shade, program_at-shade}
 use Rattle.shadow_laws.proofs.ShadowNumbers.{Sized, stock_of, run-sized}
-use Rattle.shadow_laws.proofs.ShadowRuns.{has-tables, run-keeps, gate-site, run-snoc}
-use Rattle.program_model.specs.PlainRun.{State}
+use Rattle.shadow_laws.proofs.ShadowRuns.{has-tables, run-keeps, gate-site, run-snoc, zeros-loaded}
+use Rattle.shadow_laws.proofs.Sound.{never_running}
 
 -- ---- where the own hart is
 
@@ -372,21 +372,13 @@ module _ (w : World) (a : Accepted w) where
 
   -- ---- each run
 
-  zeros-loaded : (b n : ℕ) → loaded zeros b n ≡ 0
-  unfolding loaded
-  zeros-loaded b zero = refl
-  zeros-loaded b (suc n) = omega (arith, zeros-loaded (b + 1) n)
-
   start-inv : Logged w (shade_of (opened_run w)) 0 × IsLog (opened_run w).shared
   start-inv =
       let head : log_head zeros ≡ 0 = zeros-loaded 0x4200_0000 8 in
       let tail : log_tail zeros ≡ 0 = zeros-loaded 0x4200_0008 8 in (
-        record { place = λ e. absurd (never e); queue = λ n. (record { order = omega (arith, head, tail); most = omega (arith, tail) }, omega (arith, tail)) },
+        record { place = λ e. never_running e; queue = λ n. (record { order = omega (arith, head, tail); most = omega (arith, tail) }, omega (arith, tail)) },
         record { order = omega (arith, head, tail); below = omega (arith, tail) },
       )
-    where
-      never : Never ≡ Running → ⊥
-      never e = cc
 
   runs-inv : (ms before : Moves) → length before + length ms < 2 ^ 64 - 1 → Inv before → Inv (before ++ ms)
   runs-inv [] before few inv = subst Inv (sym (append-nil before)) inv

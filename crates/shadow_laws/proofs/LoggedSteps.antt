@@ -14,6 +14,7 @@ use Rattle.run_model.specs.Run.{World, Run, Answer, rewritten_words}
 use Rattle.run_model.specs.ShadowMoves.{shadow_step}
 use Rattle.run_model.specs.OwnLaws.{Accepted}
 use Rattle.own_laws.proofs.Bounds.{Words}
+use Rattle.own_laws.proofs.Reached.{false_true}
 use Rattle.side_model.specs.Hart.{Regs, get, put, Priv}
 use Rattle.side_model.specs.Tables.{Tabs}
 use Rattle.side_model.specs.Places.{Place, InBlock, code}
@@ -105,13 +106,6 @@ module _ (w : World) (a : Accepted w) (x : Answer) (r : Run) (z : Sized (stock_o
   abbrev program : Memory
   program = program_byte l (rewritten_words w) r.own.memory
 
-  -- false isn't true
-  wrong : {A : Type 0} → false ≡ true → A
-  wrong {A} e = absurd (no e)
-    where
-      no : false ≡ true → ⊥
-      no e = cc
-
   module _ {n : ℕ} (p : ℕ) (q : Regs) (is : IsSite l p) (at : At w (block_at l p) (block l p Ecall) (logged_calls w p q) (shade_of r) n) where
     -- a word up to the HCALL
     call-led : (tail key : ℕ) (stage : Stage) → CallRow l p q tail key at.point.place at.point.regs at.point.priv stage n → AtStage tail (get 12 q) stage r.shared → key < 2 ^ 64 → get 12 q < 2 ^ 64
@@ -141,7 +135,7 @@ module _ (w : World) (a : Accepted w) (x : Answer) (r : Run) (z : Sized (stock_o
         by_next from i g e b (inl step) = step-appends r.shared after.shared queue small (get 12 q) from step
         by_next from i g e b (inr six) =
             let is : Some (Hcall false) ≡ Some i = ap (code l (block l p Ecall)) (sym six ∙ g) ∙ e in
-            let same : Hcall false ≡ i = cc in wrong (subst (λ (j : Instr). stores_out j ≡ true) (sym same) b)
+            let same : Hcall false ≡ i = cc in false_true (subst (λ (j : Instr). stores_out j ≡ true) (sym same) b)
 
         by_row : LoggedRow l p q at.point.place at.point.regs at.point.priv r.shared n → Appending r.shared after.shared
         by_row (in_call tail key stage row b key_small count) =

@@ -1,5 +1,5 @@
 -- In every run a running shadow stands at a row, the table and the list are consistent, and the words of the shadow are few.
-use Rattle.std.proofs.Common.{◌≡◌, ℕ, zero, suc, ◌+◌, ◌-◌, ◌*◌, ◌/◌, ◌%◌, ◌^◌, ◌≤◌, ◌<◌, inr, Bool, true, false, ◌&&◌, List, [], ◌∷◌, ◌++◌, slice_get, Option, Some, None, refl, ◌∙◌, ap, sym, subst, arith, ◌==◌, nat_le, nat_lt, length}
+use Rattle.std.proofs.Common.{◌≡◌, ℕ, zero, suc, ◌+◌, ◌-◌, ◌*◌, ◌/◌, ◌%◌, ◌≤◌, ◌<◌, inr, Bool, true, false, ◌&&◌, List, [], ◌∷◌, ◌++◌, slice_get, Option, Some, None, refl, ◌∙◌, ap, sym, subst, arith, ◌==◌, nat_le, nat_lt, length}
 use Rattle.std.specs.Prelude.{◌≢◌}
 use Rattle.std.proofs.lemmas.List.{length-map}
 use Rattle.std.proofs.lemmas.Option.{slice_get_within}
@@ -13,25 +13,30 @@ use Rattle.spec_base.specs.declared.note.ShadowState.TheVariants.{Never, Running
 use Rattle.spec_base.specs.declared.note.Move.{Move}
 use Rattle.spec_base.specs.declared.note.Move.TheVariants.{O, S, T, D}
 use Rattle.spec_base.specs.declared.spot.ReadSpot.{ReadSpot}
+use Rattle.spec_base.specs.declared.machine.Trap.{Trap}
 use Rattle.rv_decode.specs.declared.instr.Instr.{Instr}
 use Rattle.rv_decode.specs.declared.instr.Instr.TheVariants.{Hkey, Hcall, Hpark}
+use Rattle.rv_decode.specs.declared.instr.Instr.TheVariants.{Ecall}
+use Rattle.rv_decode.specs.Instruction.{instr_of}
 use Rattle.rv_model.specs.Memory.{Memory, zeros, loaded}
 use Rattle.rv_model.specs.Rights.{in_private, shadow_rights}
 use Rattle.rv_model.specs.Effect.{Effect, Next, Stored, Trapped, Called, Gated, effect, fetched}
 use Rattle.rv_model.specs.Space.{shadow_sees}
+use Rattle.rv_model.specs.Space.{program_byte}
 use Rattle.program_model.specs.Cache.{in_flight}
 use Rattle.program_model.specs.Calls.{CallPlan, Set, Look, Read, Write, Exit}
 use Rattle.program_model.specs.PlainRun.{State, text_of, all_taken, at_word}
 use Rattle.program_model.specs.PlainRun as plain
 use Rattle.code_model.specs.Places.{block_at}
 use Rattle.code_model.specs.Regions.{entry_address}
+use Rattle.code_model.specs.Blocks.{block}
 use Rattle.run_model.specs.Run.{World, Run, RunEnd, Answer, Usual, Took, Failed, Lost, opened_run, rewritten_words}
 use Rattle.run_model.specs.OwnMoves.{own_step}
 use Rattle.run_model.specs.ShadowMoves.{fetch_shadow, is_running, is_arrival, arrived_if, word_counted, shadow_plan, assumed, look_assumed, hint_given, fill_if, is_filled, shadow_gate, shadow_stores, shadow_after, shadow_at_word, shadow_in, shadow_step}
 use Rattle.run_model.specs.Moves.{Moves, step, step_unless, begun, run, run_from, shadow_while}
 use Rattle.run_model.specs.OwnLaws.{Accepted, RegionsBounded}
 use Rattle.run_model.specs.HintLaws.{WordsBounded}
-use Rattle.own_laws.specs.StubLaws.{LeavesLink, left, takes_head, is_stopped, RestartsFromBox}
+use Rattle.own_laws.specs.StubLaws.{LeavesLink, left, takes_head, is_stopped, RestartsFromBox, IsBoxed}
 use Rattle.own_laws.proofs.HeldRuns.{stub_stops_first, restart_has_box}
 use Rattle.own_laws.proofs.OneCall.{program_stub}
 use Rattle.own_laws.proofs.OwnLaws.{own_side}
@@ -45,25 +50,19 @@ use Rattle.side_model.proofs.Numbers.{TextFits}
 use Rattle.side_model.proofs.Private.{priv_of, HasPriv-of}
 use Rattle.side_model.proofs.Registers.{regs_of, HasRegs-of}
 use Rattle.side_model.proofs.Tabling.{HasTabs-below, HasTabs-of, tabs_of}
+use Rattle.side_model.specs.Hart.{Regs}
 use Rattle.rows_log.specs.CallRows.{IsSite}
-use Rattle.rows_log.specs.RestartRows.{HasBox}
+use Rattle.rows_log.specs.RestartRows.{HasBox, RestartRow}
 use Rattle.rows_log.proofs.RestartWords.{restart_starts}
 use Rattle.shadow_laws.proofs.OwnShades.{Watched, watched_of, with_shared, begun_anew, OwnShade, same, links, halts, begins, own-shade, fetch-shade}
 use Rattle.shadow_laws.proofs.ShadowNumbers.{Sized, stock_of, run-sized}
-use Rattle.shadow_laws.proofs.Sound.{CallRows, Starts, At, calling, Sound, restarting, Standing, stands, Target, target-of, Lands, goes, reaches}
+use Rattle.shadow_laws.proofs.Sound.{CallRows, Starts, At, calling, Sound, restarting, Standing, stands, Target, target-of, Lands, goes, reaches, stopped_running, never_running, parked_running}
 use Rattle.shadow_laws.proofs.Sound as landing
 use Rattle.shadow_laws.proofs.SoundSteps.{sound-steps, sound-stays, landed, settles}
 use Rattle.shadow_laws.proofs.SoundSteps.{next as step-to}
 use Rattle.shadow_laws.proofs.AnyCalls.{AnyCallRow, b1, next-row, any_call-leads}
-use Rattle.side_model.specs.Hart.{Regs}
-use Rattle.code_model.specs.Blocks.{block}
-use Rattle.rv_model.specs.Space.{program_byte}
-use Rattle.rv_decode.specs.declared.instr.Instr.TheVariants.{Ecall}
 use Rattle.shadow_laws.specs.SoundLaws.{TablesAreConsistent}
 use Rattle.shadow_laws.proofs.TextBlocks.{text}
-use Rattle.spec_base.specs.declared.park.Park.{Park}
-use Rattle.rv_decode.specs.Instruction.{instr_of}
-use Rattle.spec_base.specs.declared.machine.Trap.{Trap}
 
 -- ---- what a word counts
 
@@ -142,13 +141,7 @@ arrived-counted w r y false e f =
     both b s h = ap (λ (z : ShadowState). is_running z && b) s ∙ h
 
 word-counted : (w : World) (x : Answer) (r : Run) (o : Option Instr) → Counted w r (word_counted (shadow_at_word w x r o))
-word-counted w x r None = record { words = refl; regions = refl; most = omega arith; arrives = λ s h. never s }
-  where
-    never : {A : Type 0} {cause : Park} → Parked cause ≡ Running → A
-    never {A} e = absurd (no e)
-      where
-        no : {cause : Park} → Parked cause ≡ Running → ⊥
-        no e = cc
+word-counted w x r None = record { words = refl; regions = refl; most = omega arith; arrives = λ s h. parked_running s }
 word-counted w x r (Some i) =
     let e : Effect = effect Shadow (shadow_rights w.image.layout) (shadow_sees w.image.layout (rewritten_words w) r.own.memory r.shared r.shadow_page) r.shadow.registers r.shadow.pc i in
     arrived-counted w r (shadow_after w x r e) _ (after-counts w x r e) refl
@@ -167,19 +160,6 @@ pub data Kept (w : World) (s : Watched) : Type 0 where
   runs : (n : ℕ) → Sound w (any_calls w) s.shade n → s.words + n ≤ 63 + 5 * s.regions + 228 * s.arrivals → Kept w s
   rests : (t : Tabs) → HasTabs w.image.layout s.shade.shared t → TableOk w.image.layout t → s.shade.hart.state ≢ Running → s.words ≤ 64 + 5 * s.regions + 228 * s.arrivals → Kept w s
 
--- the states are different
-parked_running : {A : Type 0} {cause : Park} → Parked cause ≡ Running → A
-parked_running {A} e = absurd (no e)
-  where
-    no : {cause : Park} → Parked cause ≡ Running → ⊥
-    no e = cc
-
-stopped_running : Stopped ≡ Running → ⊥
-stopped_running e = cc
-
-never_running : Never ≡ Running → ⊥
-never_running e = cc
-
 -- consistent tables are all that a stopped shadow needs
 pub record HasTables (w : World) (s : Watched) : Type 0 where
   pub tables : Tabs
@@ -190,6 +170,12 @@ pub record HasTables (w : World) (s : Watched) : Type 0 where
 pub has-tables : (w : World) (s : Watched) → Kept w s → HasTables w s
 has-tables w s (runs n h few) = let y : Standing w s.shade = stands w h in record { tables = y.tables; has = y.has; ok = y.ok; few = omega (arith, few) }
 has-tables w s (rests t has ok still few) = record { tables = t; has = has; ok = ok; few = few }
+
+-- what is loaded of no bytes is 0
+pub zeros-loaded : (b n : ℕ) → loaded zeros b n ≡ 0
+unfolding loaded
+zeros-loaded b zero = refl
+zeros-loaded b (suc n) = omega (arith, zeros-loaded (b + 1) n)
 
 module _ (w : World) (a : Accepted w) where
   abbrev l : Layout
@@ -278,23 +264,33 @@ module _ (w : World) (a : Accepted w) where
   gate-site x r z (called t q s k page h f y e is) v n = absurd (placed w (λ r. (own_step w x r).restarts ≢ r.restarts → ⊥) r _ is (λ n. n refl) n)
   gate-site x r z (over s e h o) v n = none_some (sym z ∙ o.ended)
 
+  -- the block behind the call of a restart
+  pub restart-target : (r : Run) → IsSite l r.at_gate.pc → Target w (r.at_gate.pc + 4) (regs_of r.at_gate.registers)
+  restart-target r is = target-of w a (r.at_gate.pc + 4) (regs_of r.at_gate.registers) (let f : TextFits l = text w a in omega (arith, is.below, f.below))
+
+  -- the box that a state's call has filled
+  pub has-box : (m : Memory) (s : State) → IsBoxed m s → HasBox m s.pc (regs_of s.registers)
+  has-box m s boxed = record { holds = boxed.site; registers = λ i h. boxed.registers i h ∙ (HasRegs-of s.registers).at i }
+
   -- a shadow that is restarted stands at the first word of RESTART
-  pub restart-sound : (C : CallRows) (r next : Run) (t : Tabs) → HasTabs l r.shared t → TableOk l t → IsSite l r.at_gate.pc → RestartsFromBox r next → Sound w C (begun_anew r).shade (63 + 5 * t.count)
-  restart-sound C r next t has ok is box =
-      let site : ℕ = r.at_gate.pc in
-      let q = regs_of r.at_gate.registers in
-      let small : site + 4 < 2 ^ 64 = let f : TextFits l = text w a in omega (arith, is.below, f.below) in
-      let target : Target w (site + 4) q = target-of w a (site + 4) q small in
-      let has-box : HasBox r.shared site q =
-      subst (λ m. HasBox m site q) box.left (record { holds = box.boxed.site; registers = λ i h. box.boxed.registers i h ∙ (HasRegs-of r.at_gate.registers).at i }) in
-      restarting site q target.base target.words is target.fits
-      (record {
+  pub restart-at : (r : Run) (t : Tabs) → HasTabs l r.shared t → TableOk l t → HasBox r.shared r.at_gate.pc (regs_of r.at_gate.registers) → (target : Target w (r.at_gate.pc + 4) (regs_of r.at_gate.registers))
+      → At w target.base target.words (λ place rs s t m k. RestartRow l r.at_gate.pc (regs_of r.at_gate.registers) place rs s t k × HasBox m r.at_gate.pc (regs_of r.at_gate.registers)) (begun_anew r).shade (63 + 5 * t.count)
+  restart-at r t has ok box target =
+      record {
         code = target.code;
         point = record { place = InHelper Restarting 0; regs = regs_of r.shadow.registers; priv = priv_of r.shadow_page; tabs = t };
         shown = record { pc = refl; regs = HasRegs-of r.shadow.registers; priv = HasPriv-of r.shadow_page; tabs = has; shared = refl; running = refl };
         ok = ok;
-        row = (restart_starts l site q (regs_of r.shadow.registers) (priv_of r.shadow_page) t, has-box);
-      })
+        row = (restart_starts l r.at_gate.pc (regs_of r.at_gate.registers) (regs_of r.shadow.registers) (priv_of r.shadow_page) t, box);
+      }
+
+  -- that is a row of a shadow
+  pub restart-sound : (C : CallRows) (r next : Run) (t : Tabs) → HasTabs l r.shared t → TableOk l t → IsSite l r.at_gate.pc → RestartsFromBox r next → Sound w C (begun_anew r).shade (63 + 5 * t.count)
+  restart-sound C r next t has ok is box =
+      let q = regs_of r.at_gate.registers in
+      let target : Target w (r.at_gate.pc + 4) q = restart-target r is in
+      let filled : HasBox r.shared r.at_gate.pc q = subst (λ m. HasBox m r.at_gate.pc q) box.left (has-box next.shared r.at_gate box.boxed) in
+      restarting r.at_gate.pc q target.base target.words is target.fits (restart-at r t has ok filled target)
 
   restarted-stands : (r next : Run) → HasTables w (watched_of r) → IsSite l r.at_gate.pc → RestartsFromBox r next → watched_of next ≡ begun_anew r → Kept w (watched_of next)
   restarted-stands r next y is box e =
@@ -306,7 +302,7 @@ module _ (w : World) (a : Accepted w) where
       subst (λ s. Kept w s) (sym is) (runs n (subst (λ m. Sound w (any_calls w) (record (shade_of r) { shared = m }) n) (sym e ∙ ap (λ (s : Watched). s.shade.shared) is) h) few)
   runs-on r next n h few (takes_head v e) m is =
       subst (λ s. Kept w s) (sym is) (runs n (subst (λ m. Sound w (any_calls w) (record (shade_of r) { shared = m }) n) (sym e ∙ ap (λ (s : Watched). s.shade.shared) is) (sound-stays w a (any_calls w) (shade_of r) n v (λ p q at. at.row) h)) few)
-  runs-on r next n h few (is_stopped e) m is = absurd (stopped_running (sym e ∙ (stands w h).running))
+  runs-on r next n h few (is_stopped e) m is = stopped_running (sym e ∙ (stands w h).running)
 
   own-keeps : (r next : Run) → OwnShade r next → LeavesLink r next → (r.view ≡ Stub → next.restarts ≢ r.restarts → IsSite l r.at_gate.pc) → (next.restarts ≢ r.restarts → RestartsFromBox r next)
       → Kept w (watched_of r) → Kept w (watched_of next)
@@ -314,7 +310,7 @@ module _ (w : World) (a : Accepted w) where
   own-keeps r next (links b width v low e) link site box (runs n h few) = runs-on r next n h few link _ e
   own-keeps r next (links b width v low e) link site box (rests t has ok still few) =
       subst (λ s. Kept w s) (sym e) (rests t (HasTabs-below l (text w a).regions_few r.shared t has b width (byte_of v) low) ok still few)
-  own-keeps r next (halts e) link site box k = let y : HasTables w (watched_of r) = has-tables w (watched_of r) k in subst (λ s. Kept w s) (sym e) (rests y.tables y.has y.ok stopped_running y.few)
+  own-keeps r next (halts e) link site box k = let y : HasTables w (watched_of r) = has-tables w (watched_of r) k in subst (λ s. Kept w s) (sym e) (rests y.tables y.has y.ok (λ e. stopped_running e) y.few)
   own-keeps r next (begins v e) link site box k =
       let more : next.restarts ≡ r.restarts + 1 = ap (λ (s : Watched). s.restarts) e in
       let other : next.restarts ≢ r.restarts = λ f. absurd (omega (arith, more, f)) in
@@ -367,11 +363,6 @@ module _ (w : World) (a : Accepted w) where
 
   -- ---- the start
 
-  zeros-loaded : (b n : ℕ) → loaded zeros b n ≡ 0
-  unfolding loaded
-  zeros-loaded b zero = refl
-  zeros-loaded b (suc n) = omega (arith, zeros-loaded (b + 1) n)
-
   pub none-used : TableOk l (tabs_of zeros)
   none-used =
       let none : loaded zeros list_start 8 ≡ 0 = zeros-loaded list_start 8 in
@@ -382,7 +373,7 @@ module _ (w : World) (a : Accepted w) where
       }
 
   start-kept : Kept w (watched_of (opened_run w))
-  start-kept = rests (tabs_of zeros) (HasTabs-of l zeros) none-used never_running (omega arith)
+  start-kept = rests (tabs_of zeros) (HasTabs-of l zeros) none-used (λ e. never_running e) (omega arith)
 
   -- in every run
   pub run-keeps : (ms : Moves) → Kept w (watched_of (run w ms))

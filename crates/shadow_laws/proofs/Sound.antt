@@ -2,7 +2,7 @@
 use Rattle.std.proofs.Common.{◌≡◌, ℕ, ◌+◌, ◌^◌, ◌≤◌, ◌<◌, ◌⊎◌, inl, inr, Bool, true, false, ℤ, List, [], slice_get, Option, Some, None, refl, ◌∙◌, sym, arith}
 use Rattle.spec_base.specs.Word.{plus_int}
 use Rattle.spec_base.specs.declared.layout.Layout.{Layout}
-use Rattle.spec_base.specs.declared.note.ShadowState.TheVariants.{Running, Parked}
+use Rattle.spec_base.specs.declared.note.ShadowState.TheVariants.{Never, Running, Stopped, Parked}
 use Rattle.spec_base.specs.declared.park.Park.{Park}
 use Rattle.rv_decode.specs.Encoding.{IsEncodable}
 use Rattle.rv_decode.specs.declared.instr.Instr.{Instr}
@@ -17,6 +17,7 @@ use Rattle.code_model.specs.Blocks.{block, guard_block, is_target}
 use Rattle.code_model.specs.Places.{block_at}
 use Rattle.run_model.specs.Run.{World}
 use Rattle.run_model.specs.OwnLaws.{Accepted}
+use Rattle.own_laws.proofs.Reached.{false_true}
 use Rattle.side_model.specs.Hart.{Regs, Priv}
 use Rattle.side_model.specs.Tables.{Tabs, HasTabs, TableOk}
 use Rattle.side_model.specs.Places.{Place, InBlock, InHelper, Away, address, code, HasBlock}
@@ -52,6 +53,27 @@ bare Row place rs s t m n = Row place rs s t n
 -- word 0 of a block, whatever the registers
 pub data PadAt : Place → Regs → Priv → Tabs → ℕ → Type 0 where
   at_pad : (rs : Regs) (s : Priv) {t : Tabs} {n : ℕ} → PadAt (InBlock 0) rs s t n
+
+-- a stopped shadow doesn't run
+pub stopped_running : {A : Type 0} → Stopped ≡ Running → A
+stopped_running {A} e = absurd (no e)
+  where
+    no : Stopped ≡ Running → ⊥
+    no e = cc
+
+-- nor does one that was never started
+pub never_running : {A : Type 0} → Never ≡ Running → A
+never_running {A} e = absurd (no e)
+  where
+    no : Never ≡ Running → ⊥
+    no e = cc
+
+-- nor a parked one
+pub parked_running : {A : Type 0} {cause : Park} → Parked cause ≡ Running → A
+parked_running {A} e = absurd (no e)
+  where
+    no : {cause : Park} → Parked cause ≡ Running → ⊥
+    no e = cc
 
 -- no byte of the program's memory is known
 abbrev pub unknown : ℕ → Option ℕ
@@ -110,9 +132,11 @@ pub record Standing (w : World) (h : Shade) : Type 0 where
   pub running : h.hart.state ≡ Running
 
 module _ (w : World) where
-  stands-at : {base : ℕ} {words : List Instr} {Row : Place → Regs → Priv → Tabs → Memory → ℕ → Type 0} {h : Shade} {n : ℕ} → At w base words Row h n → Standing w h
+  -- at a row of its own
+  pub stands-at : {base : ℕ} {words : List Instr} {Row : Place → Regs → Priv → Tabs → Memory → ℕ → Type 0} {h : Shade} {n : ℕ} → At w base words Row h n → Standing w h
   stands-at at = record { tables = at.point.tabs; has = at.shown.tabs; ok = at.ok; running = at.shown.running }
 
+  -- and at each
   pub stands : {C : CallRows} {h : Shade} {n : ℕ} → Sound w C h n → Standing w h
   stands (computing p i q is c at) = stands-at at
   stands (quartering p rd imm q is f at) = stands-at at
@@ -164,34 +188,28 @@ module _ (w : World) (a : Accepted w) where
           record {
             base = 0x4000_0000;
             words = [];
-            fits = record { lawful = a.lawful; small = small; place = λ m. never m; pad = λ m. never m };
+            fits = record { lawful = a.lawful; small = small; place = λ m. false_true (sym e ∙ m); pad = λ m. false_true (sym e ∙ m) };
             code = no_code w;
           }
-        where
-          never : {A : Type 0} → is_target l (even at) ≡ true → A
-          never {A} m = absurd (no (sym e ∙ m))
-            where
-              no : false ≡ true → ⊥
-              no e = cc
 
   -- ---- a block begins
 
+  -- an instruction of the text stands there, as the rows say it
+  pub flow-is : {p : ℕ} {i : Instr} → InText w p i → IsInstruction l p
+  flow-is is = record { lawful = a.lawful; above = is.above; below = is.below; whole = is.whole }
+
+  pub access-is : {p : ℕ} {i : Instr} → InText w p i → access.IsInstruction l p
+  access-is is = record { lawful = a.lawful; above = is.above; below = is.below; whole = is.whole }
+
+  pub site-is : {p : ℕ} {i : Instr} → InText w p i → IsSite l p
+  site-is is = record { lawful = a.lawful; above = is.above; below = is.below; whole = is.whole }
+
+  -- at word 1 of its block
+  unfoldable pub at-first : {p : ℕ} {h : Shade} (s : Point) → TableOk l s.tabs → (i : Instr) (Row : Place → Regs → Priv → Tabs → Memory → ℕ → Type 0) (n : ℕ) → InText w p i
+      → Sees l (block_at l p) h (record s { place = InBlock 1 }) h.shared → Row (InBlock 1) s.regs s.priv s.tabs h.shared n → At w (block_at l p) (block l p i) Row h n
+  at-first s ok i Row n is v row = record { code = is.code; point = record s { place = InBlock 1 }; shown = v; ok = ok; row = row }
+
   module _ (C : CallRows) (p : ℕ) (h : Shade) (s : Point) (ok : TableOk l s.tabs) (start : Starts C h) where
-    -- at word 1
-    first : (i : Instr) (Row : Place → Regs → Priv → Tabs → Memory → ℕ → Type 0) (n : ℕ) → InText w p i → Sees l (block_at l p) h (record s { place = InBlock 1 }) h.shared
-        → Row (InBlock 1) s.regs s.priv s.tabs h.shared n → At w (block_at l p) (block l p i) Row h n
-    first i Row n is v row = record { code = is.code; point = record s { place = InBlock 1 }; shown = v; ok = ok; row = row }
-
-    -- an instruction stands there
-    flow-is : (i : Instr) → InText w p i → IsInstruction l p
-    flow-is i is = record { lawful = a.lawful; above = is.above; below = is.below; whole = is.whole }
-
-    access-is : (i : Instr) → InText w p i → access.IsInstruction l p
-    access-is i is = record { lawful = a.lawful; above = is.above; below = is.below; whole = is.whole }
-
-    site-is : (i : Instr) → InText w p i → IsSite l p
-    site-is i is = record { lawful = a.lawful; above = is.above; below = is.below; whole = is.whole }
-
     abbrev Begun : Type 0
     Begun = (n : ℕ) × (n ≤ 227) × Sound w C h n
 
@@ -199,10 +217,10 @@ module _ (w : World) (a : Accepted w) where
     v1 = Sees l (block_at l p) h (record s { place = InBlock 1 }) h.shared
 
     computes : (i : Instr) → Computes i → InText w p i → v1 → Begun
-    computes i c is v = (2, omega arith, computing p i s.regs (flow-is i is) c (first i (bare (PlainRow i s.regs)) 2 is v (plain_starts i s.regs s.priv s.tabs)))
+    computes i c is v = (2, omega arith, computing p i s.regs (flow-is is) c (at-first s ok i (bare (PlainRow i s.regs)) 2 is v (plain_starts i s.regs s.priv s.tabs)))
 
     stops : (i : Instr) → Stops i → InText w p i → v1 → Begun
-    stops i c is v = (1, omega arith, parking p i s.regs (flow-is i is) c (first i (bare (ParkRow s.regs)) 1 is v (park_starts s.regs s.priv s.tabs)))
+    stops i c is v = (1, omega arith, parking p i s.regs (flow-is is) c (at-first s ok i (bare (ParkRow s.regs)) 1 is v (park_starts s.regs s.priv s.tabs)))
 
     by-instr : (i : Instr) → InText w p i → v1 → Begun
     by-instr (Lui rd imm) is v = computes (Lui rd imm) (a_lui rd imm) is v
@@ -214,34 +232,34 @@ module _ (w : World) (a : Accepted w) where
     by-instr (Auipc rd imm) is v = (
       4,
       omega arith,
-      quartering p rd imm s.regs (flow-is (Auipc rd imm) is) (is.encodable (λ e. not_illegal e))
-          (first (Auipc rd imm) (bare (AuipcRow rd (plus_int p imm) s.regs)) 4 is v (auipc_starts rd (plus_int p imm) s.regs s.priv s.tabs)),
+      quartering p rd imm s.regs (flow-is is) (is.encodable (λ e. not_illegal e))
+          (at-first s ok (Auipc rd imm) (bare (AuipcRow rd (plus_int p imm) s.regs)) 4 is v (auipc_starts rd (plus_int p imm) s.regs s.priv s.tabs)),
     )
       where
         not_illegal : Auipc rd imm ≡ Illegal → ⊥
         not_illegal e = cc
     by-instr (Jal rd imm) is v =
-        (6, omega arith, linking p rd imm s.regs (flow-is (Jal rd imm) is) (first (Jal rd imm) (bare (JalRow l p rd (plus_int p imm) s.regs)) 6 is v (jal_starts l p rd (plus_int p imm) s.regs s.priv s.tabs)))
+        (6, omega arith, linking p rd imm s.regs (flow-is is) (at-first s ok (Jal rd imm) (bare (JalRow l p rd (plus_int p imm) s.regs)) 6 is v (jal_starts l p rd (plus_int p imm) s.regs s.priv s.tabs)))
     by-instr (Jalr rd rs1 imm) is v =
-        (25, omega arith, going p rd rs1 imm s.regs (flow-is (Jalr rd rs1 imm) is) (first (Jalr rd rs1 imm) (bare (JalrRow l p rd rs1 imm s.regs)) 25 is v (jalr_starts l p rd rs1 imm s.regs s.priv s.tabs)))
+        (25, omega arith, going p rd rs1 imm s.regs (flow-is is) (at-first s ok (Jalr rd rs1 imm) (bare (JalrRow l p rd rs1 imm s.regs)) 25 is v (jalr_starts l p rd rs1 imm s.regs s.priv s.tabs)))
     by-instr (Branch op rs1 rs2 imm) is v = (
       2,
       omega arith,
-      branching p op rs1 rs2 imm s.regs (flow-is (Branch op rs1 rs2 imm) is) (first (Branch op rs1 rs2 imm) (bare (BranchRow op rs1 rs2 s.regs)) 2 is v (branch_starts op rs1 rs2 s.regs s.priv s.tabs)),
+      branching p op rs1 rs2 imm s.regs (flow-is is) (at-first s ok (Branch op rs1 rs2 imm) (bare (BranchRow op rs1 rs2 s.regs)) 2 is v (branch_starts op rs1 rs2 s.regs s.priv s.tabs)),
     )
     by-instr (Load op rd rs1 imm) is v = (
       227,
       omega arith,
-      loading p op rd rs1 imm s.regs (access-is (Load op rd rs1 imm) is)
-          (first (Load op rd rs1 imm) (bare (LoadsRow l p op rd rs1 imm s.regs None)) 227 is v (load_starts l p op rd rs1 imm s.regs None s.priv s.tabs)),
+      loading p op rd rs1 imm s.regs (access-is is)
+          (at-first s ok (Load op rd rs1 imm) (bare (LoadsRow l p op rd rs1 imm s.regs None)) 227 is v (load_starts l p op rd rs1 imm s.regs None s.priv s.tabs)),
     )
     by-instr (Store op rs1 rs2 imm) is v = (
       227,
       omega arith,
-      storing p op rs1 rs2 imm s.regs s.tabs (access-is (Store op rs1 rs2 imm) is)
-          (first (Store op rs1 rs2 imm) (StoresRow l p op rs1 rs2 imm s.regs unknown zeros s.tabs) 227 is v (store_starts l p op rs1 rs2 imm s.regs unknown zeros s.priv s.tabs h.shared (λ x i j. tt))),
+      storing p op rs1 rs2 imm s.regs s.tabs (access-is is)
+          (at-first s ok (Store op rs1 rs2 imm) (StoresRow l p op rs1 rs2 imm s.regs unknown zeros s.tabs) 227 is v (store_starts l p op rs1 rs2 imm s.regs unknown zeros s.priv s.tabs h.shared (λ x i j. tt))),
     )
-    by-instr Ecall is v = (31, omega arith, calling p s.regs (site-is Ecall is) (first Ecall (C p s.regs) 31 is v (start p s.regs s.priv s.tabs v.regs)))
+    by-instr Ecall is v = (31, omega arith, calling p s.regs (site-is is) (at-first s ok Ecall (C p s.regs) 31 is v (start p s.regs s.priv s.tabs v.regs)))
     by-instr Ebreak is v = stops Ebreak at_ebreak is v
     by-instr Hgate is v = stops Hgate at_gate is v
     by-instr Hleave is v = stops Hleave at_leave is v
@@ -302,10 +320,7 @@ jump-place (faults p e) = inl refl
 -- a place in a helper is the same whatever block is at hand
 pub helper-address : (base other : ℕ) (place : Place) → is_helper place ≡ true → address base place ≡ address other place
 helper-address base other (InHelper h n) e = refl
-helper-address base other (InBlock n) e = absurd (no e)
-  where
-    no : false ≡ true → ⊥
-    no e = cc
+helper-address base other (InBlock n) e = false_true e
 helper-address base other (Away a) e = refl
 
 -- the target of jal, where its pad is reached

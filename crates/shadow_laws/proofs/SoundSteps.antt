@@ -2,23 +2,26 @@
 use Rattle.std.proofs.Common.{◌≡◌, ℕ, ◌+◌, ◌^◌, ◌≤◌, ◌<◌, ◌⊎◌, inl, inr, true, ℤ, List, slice_get, Some, None, refl, ◌∙◌, ap, sym, subst, arith}
 use Rattle.std.specs.Prelude.{⊤}
 use Rattle.std.proofs.lemmas.Bool.Decides.{nat_tests}
-use Rattle.spec_base.specs.Word.{plus_int, word_of_int, byte_of}
-use Rattle.spec_base.specs.Layout.{link_start}
+use Rattle.spec_base.specs.Word.{plus_int, word_of_int}
+use Rattle.spec_base.specs.Layout.{link_start, table_start, list_start}
 use Rattle.spec_base.specs.declared.layout.Layout.{Layout}
 use Rattle.spec_base.specs.declared.park.Park.{Park}
 use Rattle.rv_decode.specs.declared.instr.Instr.{Instr}
 use Rattle.rv_decode.specs.declared.instr.Instr.TheVariants.{Jal, Jalr}
-use Rattle.rv_model.specs.Memory.{Memory, zeros, stored, patched}
+use Rattle.rv_decode.specs.declared.instr.Instr.TheVariants.{Ecall}
+use Rattle.rv_model.specs.Memory.{Memory, zeros, stored, patched, loaded}
 use Rattle.rv_model.specs.Space.{program_byte}
 use Rattle.rv_model.proofs.Results.{wrap-small}
 use Rattle.code_model.specs.Assembly.{X31, ld}
 use Rattle.code_model.specs.Blocks.{block, is_target}
 use Rattle.code_model.specs.Places.{block_at}
+use Rattle.code_model.specs.Regions.{entry_address, entry_of, listed_address}
 use Rattle.run_model.specs.Run.{World, Run, Answer, rewritten_words}
 use Rattle.run_model.specs.ShadowMoves.{shadow_step}
 use Rattle.run_model.specs.OwnLaws.{Accepted}
+use Rattle.own_laws.proofs.Reached.{none_some}
 use Rattle.side_model.specs.Hart.{Regs, get, put, Priv}
-use Rattle.side_model.specs.Tables.{Tabs, TableOk}
+use Rattle.side_model.specs.Tables.{Tabs, TableOk, HasTabs}
 use Rattle.side_model.specs.Places.{Place, InBlock, address, code, HasBlock}
 use Rattle.side_model.specs.Words.{Point, exec_some}
 use Rattle.side_model.specs.Rows.{Led, arrives}
@@ -28,10 +31,10 @@ use Rattle.side_model.proofs.Fetching.{CodeAt}
 use Rattle.side_model.proofs.JumpWords.{jump_leads}
 use Rattle.side_model.proofs.Numbers.{TextFits, target-inside}
 use Rattle.side_model.proofs.Stepping.{step-lands}
-use Rattle.side_model.proofs.Tabling.{HasTabs-below}
 use Rattle.rows_access.proofs.LoadWords.{load_leads}
 use Rattle.rows_access.proofs.StoreWords.{store_leads}
 use Rattle.rows_access.proofs.StoreChanges.{store_keeps}
+use Rattle.rows_access.proofs.AccessPlaces.{loaded-same}
 use Rattle.rows_flow.specs.Following.{IsInstruction}
 use Rattle.rows_flow.specs.JalRows.{JalRow, PadRow, Crosses, stays, crosses}
 use Rattle.rows_flow.specs.JalrRows.{JalrsRow}
@@ -40,7 +43,6 @@ use Rattle.rows_flow.proofs.BranchWords.{branch_leads}
 use Rattle.rows_flow.proofs.JalWords.{jal_leads}
 use Rattle.rows_flow.proofs.JalrWords.{jalr_leads}
 use Rattle.rows_flow.proofs.Crossing.{crossing-shows}
-use Rattle.rv_decode.specs.declared.instr.Instr.TheVariants.{Ecall}
 use Rattle.rows_log.specs.CallRows.{IsSite}
 use Rattle.rows_log.specs.RestartRows.{RestartNext, word, call}
 use Rattle.rows_log.proofs.FilledReads.{fills-keep_tables}
@@ -48,6 +50,48 @@ use Rattle.rows_log.proofs.RestartWords.{restart_leads, restarted_leads, box_sta
 use Rattle.shadow_laws.proofs.ShadowNumbers.{Sized, stock_of, shadow_key-small}
 use Rattle.shadow_laws.proofs.Sound.{CallRows, Starts, bare, PadAt, at_pad, unknown, At, Sound, computing, quartering, branching, linking, going, jumping, padded, parking, guarded, loading, storing, calling, restarting, unboxing, Lands, goes, reaches, halts, is_helper, jump-place, helper-address, pad-target, Target, target-of, target-block, begins}
 use Rattle.shadow_laws.proofs.TextBlocks.{InText, at-address, text}
+
+-- ---- other bytes are shared
+
+-- all that is shared behind the log's head is left
+abbrev pub LeavesBehindHead : Memory → Memory → Type 0
+LeavesBehindHead m m' = (b : ℕ) → link_start + 8 ≤ b → m' b ≡ m b
+
+-- a number behind a place stays
+number-kept : (m m' : Memory) (from : ℕ) → ((b : ℕ) → from ≤ b → m' b ≡ m b) → (a n : ℕ) → from ≤ a → loaded m' a n ≡ loaded m a n
+number-kept m m' from same a n h = loaded-same n m' m a a (λ k less. same (a + k) (omega arith))
+
+-- an entry of the table stays where the table does
+pub entry-kept : (m m' : Memory) → ((b : ℕ) → table_start ≤ b → m' b ≡ m b) → (region : ℕ) → entry_of m' region ≡ entry_of m region
+entry-kept m m' same region = number-kept m m' table_start same (entry_address region) 4 (omega arith)
+
+-- table and list stay
+pub tabs-kept : (l : Layout) (m m' : Memory) (t : Tabs) → ((b : ℕ) → table_start ≤ b → m' b ≡ m b) → HasTabs l m t → HasTabs l m' t
+tabs-kept l m m' t same has =
+    record {
+      entry = λ region h. entry-kept m m' same region ∙ has.entry region h;
+      count = number-kept m m' table_start same list_start 8 (omega arith) ∙ has.count;
+      listed = λ slot h. number-kept m m' table_start same (listed_address slot) 4 (omega arith) ∙ has.listed slot h;
+    }
+
+-- a shadow at a row is there with other bytes, where those behind the log's head are left
+unfoldable pub stays-at : {w : World} {base : ℕ} {words : List Instr} {Row Row' : Place → Regs → Priv → Tabs → Memory → ℕ → Type 0} {h : Shade} {m : Memory} {n : ℕ} → LeavesBehindHead h.shared m
+    → (at : At w base words Row h n) → Row' at.point.place at.point.regs at.point.priv at.point.tabs m n → At w base words Row' (record h { shared = m }) n
+stays-at {w} {h = h} {m} leaves at row =
+    record {
+      code = at.code;
+      point = at.point;
+      shown = record {
+        pc = at.shown.pc;
+        regs = at.shown.regs;
+        priv = at.shown.priv;
+        tabs = tabs-kept w.image.layout h.shared m at.point.tabs (λ b k. leaves b (omega arith)) at.shown.tabs;
+        shared = refl;
+        running = at.shown.running;
+      };
+      ok = at.ok;
+      row = row;
+    }
 
 module _ (w : World) (a : Accepted w) where
   abbrev l : Layout
@@ -71,7 +115,7 @@ module _ (w : World) (a : Accepted w) where
         (λ d spot b unhinted e ok. let f = fills-keep_tables w r at.point.tabs d spot b unhinted a.lawful e at.shown.tabs ok in (f.tables, f.has, f.ok)) d
 
     -- at a row that a word has led to, in the same block
-    pub next : {base : ℕ} {words : List Instr} {Row Row' : Place → Regs → Priv → Tabs → Memory → ℕ → Type 0} {n k : ℕ} → At w base words Row (shade_of r) n
+    unfoldable pub next : {base : ℕ} {words : List Instr} {Row Row' : Place → Regs → Priv → Tabs → Memory → ℕ → Type 0} {n k : ℕ} → At w base words Row (shade_of r) n
         → (s : Point) → Sees l base after s after.shared → TableOk l s.tabs → Row' s.place s.regs s.priv s.tabs after.shared k → At w base words Row' after k
     next at s v ok row = record { code = at.code; point = s; shown = v; ok = ok; row = row }
 
@@ -140,13 +184,6 @@ module _ (w : World) (a : Accepted w) where
             row = at_pad at.point.regs at.point.priv;
           }))
 
-      -- no byte is known, so that the program's may be any
-      stays-known : {A : Type 0} (b v : ℕ) → unknown b ≡ Some v → A
-      stays-known {A} b v e = absurd (no e)
-        where
-          no : None ≡ Some v → ⊥
-          no e = cc
-
       -- each word leads on
       pub sound-steps : {n : ℕ} → ((p : ℕ) (q : Regs) → IsSite l p → At w (block_at l p) (block l p Ecall) (C p q) (shade_of r) n → Lands w C n after)
           → Sound w C (shade_of r) n → Lands w C n after
@@ -180,10 +217,10 @@ module _ (w : World) (a : Accepted w) where
           settles
           (λ s k row v ok.
           storing p op rs1 rs2 imm q t0 is
-          (next at s v ok (store_keeps l p op rs1 rs2 imm q unknown program zeros t0 k s.place s.regs s.priv s.tabs after.shared after.shared (λ b u g h none e. stays-known b u e) (λ b g. refl) row.0)))
+          (next at s v ok (store_keeps l p op rs1 rs2 imm q unknown program zeros t0 k s.place s.regs s.priv s.tabs after.shared after.shared (λ b u g h none e. none_some e) (λ b g. refl) row.0)))
           (landed at
-          (store_leads l p op rs1 rs2 imm q unknown program t0 is (λ b v e. stays-known b v e) n at.point.place at.point.regs at.point.priv at.point.tabs r.shared at.ok
-          (store_keeps l p op rs1 rs2 imm q unknown zeros program t0 n at.point.place at.point.regs at.point.priv at.point.tabs r.shared r.shared (λ b u g h none e. stays-known b u e) (λ b g. refl) at.row)))
+          (store_leads l p op rs1 rs2 imm q unknown program t0 is (λ b v e. none_some e) n at.point.place at.point.regs at.point.priv at.point.tabs r.shared at.ok
+          (store_keeps l p op rs1 rs2 imm q unknown zeros program t0 n at.point.place at.point.regs at.point.priv at.point.tabs r.shared r.shared (λ b u g h none e. none_some e) (λ b g. refl) at.row)))
       sound-steps {n} calls (calling p q is at) = calls p q is at
       sound-steps {n} calls (restarting site q base words is fits at) =
           settles (λ s k row v ok. by_row s k row v ok)
@@ -204,25 +241,6 @@ module _ (w : World) (a : Accepted w) where
     abbrev changed : Shade
     changed = record h { shared = stored h.shared link_start 8 v }
 
-    -- the shadow is where it was
-    stays-at : {base : ℕ} {words : List Instr} {Row : Place → Regs → Priv → Tabs → Memory → ℕ → Type 0} → (at : At w base words Row h n)
-        → Row at.point.place at.point.regs at.point.priv at.point.tabs changed.shared n → At w base words Row changed n
-    stays-at at row =
-        record {
-          code = at.code;
-          point = at.point;
-          shown = record {
-            pc = at.shown.pc;
-            regs = at.shown.regs;
-            priv = at.shown.priv;
-            tabs = HasTabs-below l (text w a).regions_few h.shared at.point.tabs at.shown.tabs link_start 8 (byte_of v) (omega arith);
-            shared = refl;
-            running = at.shown.running;
-          };
-          ok = at.ok;
-          row = row;
-        }
-
     -- other bytes are left
     other-bytes : (b : ℕ) → link_start + 8 ≤ b → changed.shared b ≡ h.shared b
     unfolding patched
@@ -230,21 +248,21 @@ module _ (w : World) (a : Accepted w) where
 
     pub sound-stays : ((p : ℕ) (q : Regs) → (at : At w (block_at l p) (block l p Ecall) (C p q) h n) → C p q at.point.place at.point.regs at.point.priv at.point.tabs changed.shared n)
         → Sound w C h n → Sound w C changed n
-    sound-stays calls (computing p i q is c at) = computing p i q is c (stays-at at at.row)
-    sound-stays calls (quartering p rd imm q is f at) = quartering p rd imm q is f (stays-at at at.row)
-    sound-stays calls (branching p op rs1 rs2 imm q is at) = branching p op rs1 rs2 imm q is (stays-at at at.row)
-    sound-stays calls (linking p rd imm q is at) = linking p rd imm q is (stays-at at at.row)
-    sound-stays calls (going p rd rs1 imm q is at) = going p rd rs1 imm q is (stays-at at at.row)
-    sound-stays calls (jumping to q base words fits at) = jumping to q base words fits (stays-at at at.row)
-    sound-stays calls (padded p words b f at) = padded p words b f (stays-at at at.row)
-    sound-stays calls (parking p i q is c at) = parking p i q is c (stays-at at at.row)
-    sound-stays calls (guarded q at) = guarded q (stays-at at at.row)
-    sound-stays calls (loading p op rd rs1 imm q is at) = loading p op rd rs1 imm q is (stays-at at at.row)
+    sound-stays calls (computing p i q is c at) = computing p i q is c (stays-at other-bytes at at.row)
+    sound-stays calls (quartering p rd imm q is f at) = quartering p rd imm q is f (stays-at other-bytes at at.row)
+    sound-stays calls (branching p op rs1 rs2 imm q is at) = branching p op rs1 rs2 imm q is (stays-at other-bytes at at.row)
+    sound-stays calls (linking p rd imm q is at) = linking p rd imm q is (stays-at other-bytes at at.row)
+    sound-stays calls (going p rd rs1 imm q is at) = going p rd rs1 imm q is (stays-at other-bytes at at.row)
+    sound-stays calls (jumping to q base words fits at) = jumping to q base words fits (stays-at other-bytes at at.row)
+    sound-stays calls (padded p words b f at) = padded p words b f (stays-at other-bytes at at.row)
+    sound-stays calls (parking p i q is c at) = parking p i q is c (stays-at other-bytes at at.row)
+    sound-stays calls (guarded q at) = guarded q (stays-at other-bytes at at.row)
+    sound-stays calls (loading p op rd rs1 imm q is at) = loading p op rd rs1 imm q is (stays-at other-bytes at at.row)
     sound-stays calls (storing p op rs1 rs2 imm q t0 is at) =
         storing p op rs1 rs2 imm q t0 is
-        (stays-at at
+        (stays-at other-bytes at
         (store_keeps l p op rs1 rs2 imm q unknown zeros zeros t0 n at.point.place at.point.regs at.point.priv at.point.tabs h.shared changed.shared (λ b u g i none e. refl) (λ b g. other-bytes b (omega arith)) at.row))
-    sound-stays calls (calling p q is at) = calling p q is (stays-at at (calls p q at))
+    sound-stays calls (calling p q is at) = calling p q is (stays-at other-bytes at (calls p q at))
     sound-stays calls (restarting site q base words is fits at) =
-        restarting site q base words is fits (stays-at at (at.row.0, box_stays h.shared changed.shared site q (λ b g i. other-bytes b (omega arith)) at.row.1))
-    sound-stays calls (unboxing site q base words is fits at) = unboxing site q base words is fits (stays-at at at.row)
+        restarting site q base words is fits (stays-at other-bytes at (at.row.0, box_stays h.shared changed.shared site q (λ b g i. other-bytes b (omega arith)) at.row.1))
+    sound-stays calls (unboxing site q base words is fits at) = unboxing site q base words is fits (stays-at other-bytes at at.row)
