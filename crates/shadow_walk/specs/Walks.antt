@@ -1,0 +1,49 @@
+-- What a walk of the shadow through one block comes to: the block's run is one instruction of the plain program (this project's own).
+use Rattle.std.specs.Prelude.{ℕ, ◌+◌, ◌^◌, ◌≡◌, ◌<◌, ◌≤◌, ◌⊎◌, false, Option, Some, None, IsTrue}
+use Rattle.spec_base.specs.declared.park.Park.{Park}
+use Rattle.spec_base.specs.declared.park.Park.TheVariants as park
+use Rattle.spec_base.specs.declared.note.ShadowState.TheVariants.{Running, Parked}
+use Rattle.rv_decode.specs.declared.instr.Instr.TheVariants.{Store, Ecall, Hcall}
+use Rattle.rv_model.specs.Rights.{is_data, in_text}
+use Rattle.rv_model.specs.Space.{Space}
+use Rattle.program_model.specs.PlainRun.{State, all_taken, next_state}
+use Rattle.code_model.specs.Places.{block_at}
+use Rattle.code_model.specs.Regions.{slots_in_use, shadowed}
+use Rattle.run_model.specs.Run.{World, Run}
+use Rattle.run_model.specs.ShadowMoves.{fetch_shadow}
+use Rattle.run_model.specs.Restarts.{instr_at}
+use Rattle.side_model.specs.Places.{HasBlock}
+use Rattle.side_model.specs.Tables.{Tabs, HasTabs, TableOk}
+use Rattle.hart_step.specs.Core.{Core}
+use Rattle.shadow_walk.specs.Shows.{ShowsIn, ShowsShadow}
+use Rattle.shadow_walk.specs.declared.walking.Walked.{Walked}
+use Rattle.shadow_walk.specs.declared.walking.Walked.TheVariants as walked
+
+-- the shadow has the registers, the descriptors and, in its copies or else in the program, the bytes of a plain state, and its table and list are consistent
+pub record HasState (w : World) (r : Run) (q : State) : Type 0 where
+  pub registers : (i : ℕ) → 0 < i → i < 32 → r.shadow.registers i ≡ q.registers i
+  pub files : r.shadow.files ≡ q.files
+  pub bytes : (a : ℕ) → IsTrue (is_data w.image.layout a) → shadowed r.shared r.own.memory a ≡ q.memory a
+  pub tables : Tabs
+  pub has : HasTabs w.image.layout r.shared tables
+  pub ok : TableOk w.image.layout tables
+
+-- it stands at word 1 of the block of a plain state, which has not exited
+pub record StandsAt (w : World) (r : Run) (q : State) : Type 0 where
+  pub state : HasState w r q
+  pub block : HasBlock w.image.layout q.pc
+  pub place : r.shadow.pc ≡ block_at w.image.layout q.pc + 4
+  pub goes_on : q.exited ≡ None
+
+-- why a walk parks: the program traps there, or goes on outside the text; a store finds all slots in use; a keyed read finds the log full
+pub data ParksBy (w : World) (q : State) : Park → Type 0 where
+  traps : next_state w.image w.files all_taken q ≡ None → ParksBy w q park.Fault
+  leaves : (next : State) → next_state w.image w.files all_taken q ≡ Some next → in_text w.image.layout next.pc ≡ false → ParksBy w q park.Fault
+  full_up : {op : _} {rs1 rs2 : ℕ} {imm : _} → instr_at w.image q ≡ Some (Store op rs1 rs2 imm) → ParksBy w q park.Regions
+  log_full : instr_at w.image q ≡ Some Ecall → ParksBy w q park.LogFull
+
+-- from word 1 of the block of the state q: after so many words, 227 at most, the shadow stands at the block of the next state, is parked, or is at the HCALL of the state's call, with the state as it was
+pub data Walks (w : World) (q : State) (core : Core) (space : Space) : Option Walked → Type 0 where
+  arrives : (n : ℕ) → n ≤ 227 → (next : State) → next_state w.image w.files all_taken q ≡ Some next → (y : Run) → ShowsShadow w y core space → StandsAt w y next → Walks w q core space (Some (walked.Arrived n))
+  parks : (n : ℕ) → n ≤ 227 → (cause : Park) → ParksBy w q cause → (y : Run) → ShowsIn (Parked cause) w y core space → Walks w q core space (Some (walked.Parked cause n))
+  calls : (n : ℕ) → n ≤ 227 → instr_at w.image q ≡ Some Ecall → (y : Run) → ShowsShadow w y core space → fetch_shadow w y.shadow.pc ≡ Some (Hcall false) → HasState w y q → Walks w q core space (Some (walked.Call false n))
