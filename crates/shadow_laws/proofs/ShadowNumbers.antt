@@ -97,7 +97,7 @@ size_in-small files h name size e = by_content (files name) refl e
 
 module _ (l : Layout) (words : List ℕ) (program : Memory) (own : Bytes program) where
   -- a byte of the program range
-  program-bytes : Bytes (program_byte l words program)
+  pub program-bytes : Bytes (program_byte l words program)
   program-bytes a = elim-below (in_text l a) (text_byte l words a) (program a) 256 (byte_of-below _ _) (own a)
 
   -- a byte of the shadow's view

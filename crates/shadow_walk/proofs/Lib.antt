@@ -1,2 +1,5 @@
 pub mod Effects
 pub mod Moved
+pub mod WalkRows
+pub mod Told
+pub mod OnTheWay
