@@ -3,3 +3,5 @@ pub mod Moved
 pub mod WalkRows
 pub mod Told
 pub mod OnTheWay
+pub mod WalkEnds
+pub mod WalkWords

@@ -3,8 +3,10 @@
 ghost use Rattle.std.specs.Prelude.{◌≡◌, IsTrue};
 ghost use Rattle.spec_base.specs.Layout.{is_lawful};
 ghost use Rattle.spec_base.specs.declared.machine.View.TheVariants.{Shadow};
+ghost use Rattle.hart_mem.specs.Held.{space_of};
 ghost use Rattle.hart_step.specs.Core.{core_of};
 ghost use Rattle.run_model.specs.ShadowMoves.{is_arrival};
+ghost use Rattle.shadow_walk.specs.Walks.{BlockIsOneInstruction};
 
 use crate::moves::advance;
 use hart_mem::Mem;
@@ -30,6 +32,8 @@ const MOST_WORDS: u32 = 72 + 5 * 65_536;
 pub fn walk(hart: &mut Hart, mem: &mut Mem, layout: &Layout, key: u64) -> Option<Walked>
     requires shadow { (core_of hart.old).view ≡ Shadow }
     requires lawful { IsTrue (is_lawful layout.now) }
+    ensures view { (core_of hart.new).view ≡ Shadow }
+    ensures block { BlockIsOneInstruction layout.now key result (core_of hart.old) (space_of mem.old) (core_of hart.new) (space_of mem.new) }
 {
     for words in 1..=MOST_WORDS {
         match &advance(hart, mem) {
