@@ -5,3 +5,4 @@ pub mod Told
 pub mod OnTheWay
 pub mod WalkEnds
 pub mod WalkWords
+pub mod Strides

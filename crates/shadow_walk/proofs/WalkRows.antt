@@ -1,11 +1,11 @@
--- What the row of a shadow on an instruction says of its word: some words are left, it doesn't trap, and it asks for a key in a call alone, with the program's arguments.
+-- What the row of a shadow on an instruction says of its word: some words are left, it doesn't trap, and it asks for a key or makes a call in a call alone, with the program's registers.
 use Rattle.std.specs.Prelude.{⊤}
 use Rattle.std.proofs.Common.{◌≡◌, ℕ, ◌+◌, ◌*◌, ◌-◌, ◌<◌, inl, inr, Bool, true, false, ◌==◌, lit<, ℤ, List, ◌++◌, slice_get, Option, Some, None, refl, ◌∙◌, ap, sym, subst, arith}
 use Rattle.spec_base.specs.Word.{plus_int}
 use Rattle.spec_base.specs.declared.layout.Layout.{Layout}
 use Rattle.spec_base.specs.declared.park.Park.{Park}
 use Rattle.rv_decode.specs.declared.instr.Instr.{Instr}
-use Rattle.rv_decode.specs.declared.instr.Instr.TheVariants.{Auipc, Jal, Jalr, Branch, Load, Store, Ecall, Hkey}
+use Rattle.rv_decode.specs.declared.instr.Instr.TheVariants.{Auipc, Jal, Jalr, Branch, Load, Store, Ecall, Hkey, Hcall}
 use Rattle.rv_decode.specs.declared.instr.BranchOp.{BranchOp}
 use Rattle.rv_decode.specs.declared.instr.LoadOp.{LoadOp}
 use Rattle.rv_decode.specs.declared.instr.StoreOp.{StoreOp}
@@ -26,7 +26,7 @@ use Rattle.side_model.specs.Tables.{Tabs}
 use Rattle.side_model.specs.Places.{Place, Helper, Loading, Storing, Width, code, HasBlock}
 use Rattle.side_model.specs.Words.{exec_some}
 use Rattle.side_model.specs.Rows.{Led}
-use Rattle.side_model.specs.Sees.{Shade, shade_of}
+use Rattle.side_model.specs.Sees.{Shade, shade_of, HasRegs}
 use Rattle.side_model.specs.Completes.{WordCompletes}
 use Rattle.side_model.specs.JumpRows as jump
 use Rattle.side_model.specs.JumpRows.{JumpRow, JumpFits, lands}
@@ -42,7 +42,7 @@ use Rattle.rows_access.specs.Accesses.{seen}
 use Rattle.rows_access.proofs.LoadWords.{load_leads}
 use Rattle.rows_access.proofs.StoreWords.{store_leads}
 use Rattle.rows_flow.specs.PlainRows as plain
-use Rattle.rows_flow.specs.PlainRows.{Computes, a_lui, an_imm, an_imm_w, an_op, an_op_w, a_fence, PlainRow, AuipcRow, Stops, at_ebreak, at_gate, at_leave, at_site, at_key, at_stop, at_restart, at_call, at_halt, at_illegal, ParkRow}
+use Rattle.rows_flow.specs.PlainRows.{Computes, a_lui, an_imm, an_imm_w, an_op, an_op_w, a_fence, PlainRow, AuipcRow, Stops, at_ebreak, at_gate, at_leave, at_site, at_stop, at_restart, at_halt, at_illegal, ParkRow}
 use Rattle.rows_flow.specs.BranchRows.{BranchRow}
 use Rattle.rows_flow.specs.BranchRows as branch
 use Rattle.rows_flow.specs.JalRows.{JalRow, PadRow, pad, Crosses, stays, crosses}
@@ -54,7 +54,7 @@ use Rattle.rows_flow.proofs.BranchWords.{branch_leads}
 use Rattle.rows_flow.proofs.JalWords.{jal_leads, pad_leads}
 use Rattle.rows_flow.proofs.JalrWords.{jalr_leads, jump_follows}
 use Rattle.shadow_laws.proofs.AnyCalls as calls
-use Rattle.shadow_laws.proofs.AnyCalls.{AnyCallRow, any_call-leads, a3}
+use Rattle.shadow_laws.proofs.AnyCalls.{AnyCallRow, any_call-leads, a3, b6}
 use Rattle.shadow_laws.proofs.ShadowNumbers.{Sized, stock_of, program-bytes}
 use Rattle.shadow_laws.proofs.Sound.{At, bare, pad-target, target-block}
 use Rattle.shadow_laws.proofs.TextBlocks.{text}
@@ -115,7 +115,7 @@ call-some (calls.b1 s) = lit< tt
 call-some _ = lit< tt
 
 -- so there are on an instruction
-abbrev SomeLeft : Doing → ℕ → Type 0
+abbrev pub SomeLeft : Doing → ℕ → Type 0
 SomeLeft (does p i q) n = 0 < n
 SomeLeft (ends q) n = 0 < n
 SomeLeft (restarts site q) n = ⊤
@@ -146,15 +146,16 @@ within-some (answered p answer q is at) = tt
 within-some (restarting site q base words is fits at) = tt
 within-some (unboxing site q base words is fits at) = tt
 
--- ---- keys
+-- ---- keys and calls
 
--- a word that asks for no key
-abbrev is_other : Option Instr → Bool
+-- a word that asks for no key, and makes no call
+abbrev pub is_other : Option Instr → Bool
 is_other None = false
 is_other (Some (Hkey rd)) = false
+is_other (Some (Hcall unhinted)) = false
 is_other (Some i) = true
 
--- no row but one of a call asks for one
+-- no row but one of a call is at another
 plain-other : (l : Layout) (p : ℕ) {i : Instr} {q : Regs} {place : Place} {rs : Regs} {s : Priv} {t : Tabs} {n : ℕ} → Computes i → PlainRow i q place rs s t n → is_other (code l (block l p i) place) ≡ true
 plain-other l p (a_lui rd imm) (plain.w1 s) = refl
 plain-other l p (a_lui rd imm) (plain.w2 s) = refl
@@ -215,10 +216,10 @@ park-other l p at_ebreak (plain.h1 s) = refl
 park-other l p at_gate (plain.h1 s) = refl
 park-other l p at_leave (plain.h1 s) = refl
 park-other l p (at_site rd) (plain.h1 s) = refl
-park-other l p (at_key rd) (plain.h1 s) = refl
+park-other l p (plain.at_key rd) (plain.h1 s) = refl
 park-other l p at_stop (plain.h1 s) = refl
 park-other l p at_restart (plain.h1 s) = refl
-park-other l p (at_call unhinted) (plain.h1 s) = refl
+park-other l p (plain.at_call unhinted) (plain.h1 s) = refl
 park-other l p (at_halt cause) (plain.h1 s) = refl
 park-other l p at_illegal (plain.h1 s) = refl
 
@@ -270,61 +271,80 @@ store-other l p op rs1 rs2 imm program t0 (inr (stage, row, at)) = by_row row
     by_row _ = refl
 
 -- the arguments of a call
-abbrev pub SameArguments : Regs → Regs → Type 0
+abbrev SameArguments : Regs → Regs → Type 0
 SameArguments rs q = (get 10 rs ≡ get 10 q) × (get 11 rs ≡ get 11 q) × (get 12 rs ≡ get 12 q) × (get 17 rs ≡ get 17 q)
 
--- a row of a call that asks for a key has the program's
-call-keys : (l : Layout) (p : ℕ) {q : Regs} {place : Place} {rs : Regs} {s : Priv} {t : Tabs} {n : ℕ} → AnyCallRow l p q place rs s t n → is_other (code l (block l p Ecall) place) ≡ false → SameArguments rs q
-call-keys l p (a3 s) e = (refl, refl, refl, refl)
-call-keys l p _ e = true_false e
+-- what a row of a call says there: HKEY has the program's arguments, and HCALL all its registers
+data CallGate (word : Option Instr) (rs q : Regs) : Type 0 where
+  at_key : (rd : ℕ) → word ≡ Some (Hkey rd) → SameArguments rs q → CallGate word rs q
+  at_call : word ≡ Some (Hcall false) → rs ≡ q → CallGate word rs q
 
--- what is so of an instruction whose word asks for a key
-abbrev pub AsksKey : Doing → Registers → Type 0
-AsksKey (does p i q) rs = (i ≡ Ecall) × (reg rs 10 ≡ get 10 q) × (reg rs 11 ≡ get 11 q) × (reg rs 12 ≡ get 12 q) × (reg rs 17 ≡ get 17 q)
-AsksKey (ends q) rs = ⊥
-AsksKey (restarts site q) rs = ⊤
-AsksKey (goes_to to q) rs = ⊤
+call-gates : (l : Layout) (p : ℕ) {q : Regs} {place : Place} {rs : Regs} {s : Priv} {t : Tabs} {n : ℕ} → AnyCallRow l p q place rs s t n → is_other (code l (block l p Ecall) place) ≡ false → CallGate (code l (block l p Ecall) place) rs q
+call-gates l p (a3 s) e = at_key 31 refl (refl, refl, refl, refl)
+call-gates l p (b6 s) e = at_call refl refl
+call-gates l p _ e = true_false e
 
-module _ (w : World) (r : Run) (rd : ℕ) (key : fetch_shadow w r.shadow.pc ≡ Some (Hkey rd)) where
-  -- the word at a row that asks for one is the row's
-  keyed : {base : ℕ} {words : List Instr} {Row : Place → Regs → Priv → Tabs → Memory → ℕ → Type 0} {n : ℕ} (at : At w base words Row (shade_of r) n) (o : Option Instr) → code w.image.layout words at.point.place ≡ o → is_other o ≡ true → ⊥
-  keyed at None e h = false_true h
-  keyed {base} {words} at (Some i) e h =
+-- what is so of the hart's registers at such a word, for those at word 1
+pub data Asks (gate : Instr) (rs : Registers) (q : Regs) : Type 0 where
+  key : (rd : ℕ) → gate ≡ Hkey rd → reg rs 10 ≡ get 10 q → reg rs 11 ≡ get 11 q → reg rs 12 ≡ get 12 q → reg rs 17 ≡ get 17 q → Asks gate rs q
+  call : gate ≡ Hcall false → HasRegs rs q → Asks gate rs q
+
+-- such a word is one of a call
+abbrev pub AsksIn : Instr → Registers → Doing → Type 0
+AsksIn gate rs (does p i q) = (i ≡ Ecall) × Asks gate rs q
+AsksIn gate rs (ends q) = ⊥
+AsksIn gate rs (restarts site q) = ⊤
+AsksIn gate rs (goes_to to q) = ⊤
+
+module _ (w : World) (r : Run) (gate : Instr) (word : fetch_shadow w r.shadow.pc ≡ Some gate) (is_gate : is_other (Some gate) ≡ false) where
+  -- the word at a row is the row's
+  same-word : {base : ℕ} {words : List Instr} {Row : Place → Regs → Priv → Tabs → Memory → ℕ → Type 0} {n : ℕ} (at : At w base words Row (shade_of r) n) (i : Instr) → code w.image.layout words at.point.place ≡ Some i → gate ≡ i
+  same-word {base} {words} at i e =
       let f : fetch_shadow w r.shadow.pc ≡ Some i = ap (fetch_shadow w) at.shown.pc ∙ (code-fetches w base words at.point.place i at.code e).word in
-      false_true (ap is_other (sym key ∙ f) ∙ h)
+      let same : Some gate ≡ Some i = sym word ∙ f in cc
 
-  -- so it can't be one that asks for none
+  gated : {base : ℕ} {words : List Instr} {Row : Place → Regs → Priv → Tabs → Memory → ℕ → Type 0} {n : ℕ} (at : At w base words Row (shade_of r) n) (o : Option Instr) → code w.image.layout words at.point.place ≡ o → is_other o ≡ true → ⊥
+  gated at None e h = false_true h
+  gated at (Some i) e h = false_true (sym is_gate ∙ ap (λ (x : Instr). is_other (Some x)) (same-word at i e) ∙ h)
+
+  -- so it can't be another
   other : {A : Type 0} {base : ℕ} {words : List Instr} {Row : Place → Regs → Priv → Tabs → Memory → ℕ → Type 0} {n : ℕ} (at : At w base words Row (shade_of r) n) → is_other (code w.image.layout words at.point.place) ≡ true → A
-  other {words = words} at h = absurd (keyed at (code w.image.layout words at.point.place) refl h)
+  other {words = words} at h = absurd (gated at (code w.image.layout words at.point.place) refl h)
 
-  -- a key is asked for in a call, with the program's arguments
-  pub within-keys : {bytes : ℕ → Option ℕ} {program : Memory} {d : Doing} {n : ℕ} → Within w bytes program d (shade_of r) n → AsksKey d r.shadow.registers
-  within-keys (computing p i q is c at) = other at (plain-other w.image.layout p c at.row)
-  within-keys (quartering p rd imm q is f at) = other at (auipc-other w.image.layout p rd imm at.row)
-  within-keys (branching p op rs1 rs2 imm q is at) = other at (branch-other w.image.layout p imm at.row)
-  within-keys (linking p rd imm q is at) = other at (jal-other w.image.layout p rd imm at.row)
-  within-keys (padding p rd imm q words is f at) = other at (pad-other words f at.row)
-  within-keys (going p rd rs1 imm q is at) = other at (jalr-other w.image.layout p rd rs1 imm at.row)
-  within-keys (jumping p rd rs1 imm q base words is fits at) = other at (jump-other w.image.layout (plus_int (get rs1 q) imm) (put rd (p + 4) q) base words fits at.row)
-  within-keys (parking p i q is c at) = other at (park-other w.image.layout p c at.row)
-  within-keys (guarded q at) = other at (guard-other w.image.layout at.row)
-  within-keys (loading p op rd rs1 imm q is at) = other at (load-other w.image.layout p op rd rs1 imm at.row)
-  within-keys {program = program} (storing p op rs1 rs2 imm q t0 is at) = other at (store-other w.image.layout p op rs1 rs2 imm program t0 at.row)
-  within-keys (calling p q is at before) = by_test (is_other (code w.image.layout (block w.image.layout p Ecall) at.point.place)) refl
+  -- in a call
+  called : {p : ℕ} {q : Regs} {n : ℕ} → At w (block_at w.image.layout p) (block w.image.layout p Ecall) (bare (AnyCallRow w.image.layout p q)) (shade_of r) n → Asks gate r.shadow.registers q
+  called {p} {q} at = by_test (is_other (code w.image.layout (block w.image.layout p Ecall) at.point.place)) refl
     where
-      by_test : (b : Bool) → is_other (code w.image.layout (block w.image.layout p Ecall) at.point.place) ≡ b → AsksKey (does p Ecall q) r.shadow.registers
+      by_gate : CallGate (code w.image.layout (block w.image.layout p Ecall) at.point.place) at.point.regs q → Asks gate r.shadow.registers q
+      by_gate (at_key rd e same) = key rd (same-word at (Hkey rd) e) (at.shown.regs.at 10 ∙ same.0) (at.shown.regs.at 11 ∙ same.1) (at.shown.regs.at 12 ∙ same.2) (at.shown.regs.at 17 ∙ same.3)
+      by_gate (at_call e same) = call (same-word at (Hcall false) e) (subst (λ (rs : Regs). HasRegs r.shadow.registers rs) same at.shown.regs)
+
+      by_test : (b : Bool) → is_other (code w.image.layout (block w.image.layout p Ecall) at.point.place) ≡ b → Asks gate r.shadow.registers q
       by_test true e = other at e
-      by_test false e =
-          let same : SameArguments at.point.regs q = call-keys w.image.layout p at.row e in
-          (refl, at.shown.regs.at 10 ∙ same.0, at.shown.regs.at 11 ∙ same.1, at.shown.regs.at 12 ∙ same.2, at.shown.regs.at 17 ∙ same.3)
-  within-keys (answered p answer q is at) = tt
-  within-keys (restarting site q base words is fits at) = tt
-  within-keys (unboxing site q base words is fits at) = tt
+      by_test false e = by_gate (call-gates w.image.layout p at.row e)
+
+  -- a key is asked for, or a call made, in a call alone
+  pub within-asks : {bytes : ℕ → Option ℕ} {program : Memory} {d : Doing} {n : ℕ} → Within w bytes program d (shade_of r) n → AsksIn gate r.shadow.registers d
+  within-asks (computing p i q is c at) = other at (plain-other w.image.layout p c at.row)
+  within-asks (quartering p rd imm q is f at) = other at (auipc-other w.image.layout p rd imm at.row)
+  within-asks (branching p op rs1 rs2 imm q is at) = other at (branch-other w.image.layout p imm at.row)
+  within-asks (linking p rd imm q is at) = other at (jal-other w.image.layout p rd imm at.row)
+  within-asks (padding p rd imm q words is f at) = other at (pad-other words f at.row)
+  within-asks (going p rd rs1 imm q is at) = other at (jalr-other w.image.layout p rd rs1 imm at.row)
+  within-asks (jumping p rd rs1 imm q base words is fits at) = other at (jump-other w.image.layout (plus_int (get rs1 q) imm) (put rd (p + 4) q) base words fits at.row)
+  within-asks (parking p i q is c at) = other at (park-other w.image.layout p c at.row)
+  within-asks (guarded q at) = other at (guard-other w.image.layout at.row)
+  within-asks (loading p op rd rs1 imm q is at) = other at (load-other w.image.layout p op rd rs1 imm at.row)
+  within-asks {program = program} (storing p op rs1 rs2 imm q t0 is at) = other at (store-other w.image.layout p op rs1 rs2 imm program t0 at.row)
+  within-asks (calling p q is at before) = (refl, called at)
+  within-asks (answered p answer q is at) = tt
+  within-asks (restarting site q base words is fits at) = tt
+  within-asks (unboxing site q base words is fits at) = tt
 
 -- ---- traps
 
 -- what is so of each word on an instruction
-abbrev Completing : World → Run → Doing → Type 0
+abbrev pub Completing : World → Run → Doing → Type 0
 Completing w r (does p i q) = WordCompletes w r
 Completing w r (ends q) = WordCompletes w r
 Completing w r (restarts site q) = ⊤

@@ -1,4 +1,4 @@
--- What each word of a shadow on its way through the block of a plain state leads to: a further word of the way, the block of the next state, the HCALL of the state's call, or a park.
+-- What each word of a shadow on its way through the block of a plain state leads to: a further word of the way, the block of the next state, or a park; or it is an HCALL.
 use Rattle.std.proofs.Common.{◌≡◌, ℕ, zero, suc, ◌+◌, ◌%◌, ◌<◌, ◌≤◌, ◌⊎◌, inl, inr, Bool, true, false, ◌==◌, ℤ, Option, Some, None, refl, ◌∙◌, ap, ap₂, sym, subst, arith}
 use Rattle.std.proofs.lemmas.Bool.{and_parts}
 use Rattle.spec_base.specs.Word.{plus_int}
@@ -56,13 +56,13 @@ use Rattle.shadow_walk.proofs.WalkEnds.{OnInstruction, on-instruction, parks-by}
 
 -- what a word has led to
 pub data Went (w : World) (q : State) (y next : Run) (n : ℕ) : Type 0 where
-  still : (d : Doing) (k : ℕ) → k < n → is_arrival w.image.layout next.shadow.pc ≡ false → Walking w q next d k → IsQuiet w y → Went w q y next n
-  came : (to : State) → next_state w.image w.files all_taken q ≡ Some to → is_arrival w.image.layout next.shadow.pc ≡ true → StandsAt w next to → IsQuiet w y → Went w q y next n
-  calls : fetch_shadow w y.shadow.pc ≡ Some (Hcall false) → instr_at w.image q ≡ Some Ecall → HasState w y q → Went w q y next n
+  still : (d : Doing) (k : ℕ) → k < n → is_arrival w.image.layout next.shadow.pc ≡ false → Walking w q next d k → Went w q y next n
+  came : (to : State) → next_state w.image w.files all_taken q ≡ Some to → is_arrival w.image.layout next.shadow.pc ≡ true → StandsAt w next to → next.shadow.state ≡ Running → Went w q y next n
+  calls : fetch_shadow w y.shadow.pc ≡ Some (Hcall false) → Went w q y next n
   halted : (cause : Park) → next.shadow.state ≡ Parked cause → ParksBy w q cause ⊎ ((cause ≡ park.Exit) ⊎ (cause ≡ park.Store)) → Went w q y next n
 
 -- a register that is written in two ways
-shown-register : (rs new : Registers) (g : Regs) → HasRegs rs g → HasRegs new g → (i : ℕ) → 0 < i → rs i ≡ new i
+pub shown-register : (rs new : Registers) (g : Regs) → HasRegs rs g → HasRegs new g → (i : ℕ) → 0 < i → rs i ≡ new i
 shown-register rs new g h k zero above = absurd (omega (arith, above))
 shown-register rs new g h k (suc i) above = h.at (suc i) ∙ sym (k.at (suc i))
 
@@ -116,7 +116,7 @@ module _ (w : World) (a : Accepted w) (x : Answer) {q : State} {y : Run} {d : Do
         place = at.shown.pc ∙ at.place ∙ ap (λ (x : ℕ). block_at l x + 4) (sym pc);
         goes_on = going;
       })
-      quiet
+      at.shown.running
 
   -- no register is marked
   clean : (i : Instr) {new : Registers} {to : State} → Agrees (marks_after l false q (Some i) no_marks) new to → Agrees no_marks new to
@@ -214,21 +214,9 @@ module _ (w : World) (a : Accepted w) (x : Answer) {q : State} {y : Run} {d : Do
 
   -- ---- an HCALL
 
-  -- the state's registers, descriptors and bytes are the shadow's still
-  turned : {to : ℕ} {new : Regs} {e : Doing} → Turns w y to new e → e ≡ d → OnInstruction w q e → Went w q y next n
-  turned (asks {p} {q = g} answer word place has to new) same is =
-      let stands : Standing w (shade_of y) = within-stands w k.within in
-      calls word is.1
-      (record {
-        registers = λ i above below. shown-register y.shadow.registers (registers g) g has (has-registers g) i above ∙ is.3.registers i above below refl;
-        files = k.files;
-        bytes = λ b inside. (k.sees (sym (ap is_storing same))).bytes b inside refl;
-        tables = stands.tables;
-        has = stands.has;
-        ok = stands.ok;
-        sized = of-sized y k.sized;
-      })
-  turned (asks_again answer rs t word has loaded tabs fresh to answers) same is = absurd is
+  turned : {to : ℕ} {new : Regs} {e : Doing} → Turns w y to new e → OnInstruction w q e → Went w q y next n
+  turned (asks answer word place has to new) is = calls word
+  turned (asks_again answer rs t word has loaded tabs fresh to answers) is = absurd is
 
   -- ---- each word
 
@@ -249,7 +237,6 @@ module _ (w : World) (a : Accepted w) (x : Answer) {q : State} {y : Run} {d : Do
             sized = sized-next;
             goes_on = k.goes_on;
           })
-          quiet
-      by_leads (turns j less to new turn within place) = turned turn refl (on-instruction k.doing k.plain k.agrees)
+      by_leads (turns j less to new turn within place) = turned turn (on-instruction k.doing k.plain k.agrees)
       by_leads (reaches p base pt block place ok shown comes quiet) = arrived {p = p} {base = base} {pt = pt} (record { block = block; place = place; ok = ok; shown = shown }) comes quiet
       by_leads (halts cause state t has ok stops) = halted cause state (parks-by w a q k.goes_on cause (on-instruction k.doing k.plain k.agrees) stops)

@@ -1,44 +1,38 @@
-use Rattle.std.proofs.Common.{rules, ◌≡◌, IsTrue, ℕ, ◌+◌, ◌-◌, ◌*◌, ◌<◌, ◌≤◌, length, ◌/◌, ◌%◌, Bool, true, false, nat_eq, nat_lt, List, [], ◌∷◌, ◌++◌, slice_index_or, slice_set, bit_and, bit_or, Fits, w8, w32, w64, Bor, MutBor}
-use Rattle.spec_base.specs.Layout.{is_lawful}
-use Rattle.spec_base.specs.declared.machine.View.TheVariants.{Shadow}
+use Rattle.std.proofs.Common.{◌≡◌, ◌∙◌, ap, sym, subst, arith}
 use Rattle.hart_mem.specs.Held.{space_of}
 use Rattle.hart_step.specs.Core.{core_of}
-use Rattle.run_model.specs.ShadowMoves.{is_arrival}
-use Rattle.shadow_walk.specs.Walks.{BlockIsOneInstruction}
+use Rattle.shadow_walk.proofs.Strides.{sets_out, done, keyed, parked, called, strayed, is-stray, comes_there, goes_between}
 use Rattle.shadow_walk.proofs.walking.walk.Goals as goal
 
--- src/walking.rt:38:5
 pub loop-words-init : goal.loop-words-init
-loop-words-init c = ?
+loop-words-init c = record { view = c.requires.shadow; way = sets_out c.args.layout.now c.args.key (core_of c.args.hart.now) (space_of c.args.mem.now) }
 
--- src/walking.rt:39:16
 pub advance-requires : goal.advance-requires
-advance-requires c = ?
+advance-requires c = record { shadow = c.loop-words.invariant.view }
 
--- src/walking.rt:42:35
 pub returns-in-Park-clause-block : goal.returns-in-Park-clause-block
-returns-in-Park-clause-block c = ?
+returns-in-Park-clause-block c w r q a same shows at key =
+    parked w a (record { outcome = c.advance.ensures.outcome; moves = c.advance.ensures.moves }) (c.loop-words.invariant.way w r q a same shows at key) c.in-Park.cause c.in-Park.is
 
--- src/walking.rt:43:38
 pub returns-in-Call-clause-block : goal.returns-in-Call-clause-block
-returns-in-Call-clause-block c = ?
+returns-in-Call-clause-block c w r q a same shows at key =
+    called w a (record { outcome = c.advance.ensures.outcome; moves = c.advance.ensures.moves }) (c.loop-words.invariant.way w r q a same shows at key) c.in-Call.unhinted c.in-Call.is
 
--- src/walking.rt:44:18
 pub returns-in_default : goal.returns-in_default
-returns-in_default c = ?
+returns-in_default c =
+    record {
+      view = c.advance.ensures.view;
+      block = λ w r q a same shows at key.
+          absurd
+          (strayed w a (record { outcome = c.advance.ensures.outcome; moves = c.advance.ensures.moves }) (c.loop-words.invariant.way w r q a same shows at key) c.advance.result refl
+          (is-stray c.advance.result c.in_default.not-Done c.in_default.not-Key c.in_default.not-Park c.in_default.not-Call));
+    }
 
--- src/walking.rt:47:13
 pub returns-then-is_arrival-clause-block : goal.returns-then-is_arrival-clause-block
-returns-then-is_arrival-clause-block c = ?
+returns-then-is_arrival-clause-block c w r q a same shows at key = c.match-advance.branch
 
--- src/walking.rt:38:5
 pub loop-words-preserved : goal.loop-words-preserved
-loop-words-preserved c = ?
+loop-words-preserved c = c.if-is_arrival
 
--- src/walking.rt:32:1
-pub returns-clause-view : goal.returns-clause-view
-returns-clause-view c = ?
-
--- src/walking.rt:32:1
 pub returns-clause-block : goal.returns-clause-block
-returns-clause-block c = ?
+returns-clause-block c w r q a same shows at key = let k = c.loop-words.invariant.way w r q a same shows at key in absurd (omega (arith, k.few, c.loop-words-test.false))
