@@ -197,8 +197,8 @@ module _ (w : World) (a : Accepted w) {q : State} {words : ℕ} {h : Held} {c : 
       same ∙ plan_agrees l no_marks (view_in y) y.shadow.files (registers g) q sees agrees k.walking.files (use-none l q Ecall)
 
   -- an HKEY, to which the key of the state's call is given
-  pub keyed : (rd key : ℕ) → e ≡ event.Key rd → key ≡ key_of (plan_of l q) → Turned w q words (record d { registers = with_reg d.registers rd key; pc = after d.pc }) t
-  keyed rd number is is_key = by_doing k.doing (on-instruction k.walking.doing k.walking.plain k.walking.agrees) refl (asked (Hkey rd) at.word refl)
+  pub keyed : (rd key : ℕ) → e ≡ event.Key rd → (m : Layout) → m ≡ l → key ≡ key_of (plan_of m q) → Turned w q words (record d { registers = with_reg d.registers rd key; pc = after d.pc }) t
+  keyed rd number is m same_layout is_key = by_doing k.doing (on-instruction k.walking.doing k.walking.plain k.walking.agrees) refl (asked (Hkey rd) at.word refl)
     where
       at : AtKey rd w y c s d t
       at = subst (λ (e : Event). MovesBy e w y c s d t) is moved
@@ -213,7 +213,7 @@ module _ (w : World) (a : Accepted w) {q : State} {words : ℕ} {h : Held} {c : 
       by_asks : (p : ℕ) (i : Instr) (g : Regs) → OnInstruction w q (does p i g) → does p i g ≡ k.doing → i ≡ Ecall → Asks (Hkey rd) y.shadow.registers g → Turned w q words (record d { registers = with_reg d.registers rd number; pc = after d.pc }) t
       by_asks p i g on same call (asks.key rd' f e10 e11 e12 e17) =
           let quiet : is_storing k.doing ≡ false = ap is_storing (sym same) ∙ ap (λ (i : Instr). is_storing (does p i g)) call in
-          by_key (ap key_of (same-plan g (k.walking.sees quiet) on.3 e10 e11 e12 e17) ∙ sym is_key)
+          by_key (ap key_of (same-plan g (k.walking.sees quiet) on.3 e10 e11 e12 e17) ∙ ap (λ (l : Layout). key_of (plan_of l q)) (sym same_layout) ∙ sym is_key)
       by_asks p i g on same call (asks.call f has) = absurd cc
 
       by_doing : (f : Doing) → OnInstruction w q f → f ≡ k.doing → AsksIn (Hkey rd) y.shadow.registers f → Turned w q words (record d { registers = with_reg d.registers rd number; pc = after d.pc }) t
