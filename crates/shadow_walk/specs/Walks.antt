@@ -1,5 +1,5 @@
 -- What a walk of the shadow through one block comes to: the block's run is one instruction of the plain program (this project's own).
-use Rattle.std.specs.Prelude.{ℕ, ℤ, ◌+◌, ◌^◌, ◌≡◌, ◌<◌, ◌≤◌, false, length, Option, Some, None, IsTrue, ⊤, List, [], ◌∷◌}
+use Rattle.std.specs.Prelude.{ℕ, zero, suc, ℤ, ◌+◌, ◌^◌, ◌≡◌, ◌<◌, ◌≤◌, false, length, Option, Some, None, IsTrue, ⊤, List, [], ◌∷◌}
 use Rattle.spec_base.specs.declared.layout.Layout.{Layout}
 use Rattle.spec_base.specs.declared.note.ShadowState.TheVariants.{Parked}
 use Rattle.spec_base.specs.declared.park.Park.{Park}
@@ -13,8 +13,8 @@ use Rattle.program_model.specs.Calls.{key_of}
 use Rattle.program_model.specs.PlainRun.{State, all_taken, next_state, plan_of}
 use Rattle.code_model.specs.Places.{block_at}
 use Rattle.code_model.specs.Regions.{shadowed}
-use Rattle.run_model.specs.Run.{World, Run}
-use Rattle.run_model.specs.ShadowMoves.{fetch_shadow}
+use Rattle.run_model.specs.Run.{World, Run, Answer}
+use Rattle.run_model.specs.ShadowMoves.{fetch_shadow, shadow_step}
 use Rattle.run_model.specs.OwnLaws.{Accepted}
 use Rattle.run_model.specs.Restarts.{instr_at}
 use Rattle.side_model.specs.Places.{HasBlock}
@@ -81,13 +81,20 @@ pub data ParksBy (w : World) (q : State) : Park → Type 0 where
   full_up : (op : StoreOp) (rs1 rs2 : ℕ) (imm : ℤ) → instr_at w.image q ≡ Some (Store op rs1 rs2 imm) → ParksBy w q park.Regions
   log_full : instr_at w.image q ≡ Some Ecall → ParksBy w q park.LogFull
 
--- from word 1 of the block of the state q: after so many words, 227 at most, the shadow stands at the block of the next state, is parked, or is at the HCALL of the state's call, with the state as it was
-pub data Walks (w : World) (q : State) (core : Core) (space : Space) : Option Walked → Type 0 where
-  arrives : (n : ℕ) → n ≤ 227 → (next : State) → next_state w.image w.files all_taken q ≡ Some next → (y : Run) → ShowsShadow w y core space → StandsAt w y next → Walks w q core space (Some (walked.Arrived n))
-  parks : (n : ℕ) → n ≤ 227 → (cause : Park) → ParksBy w q cause → (y : Run) → ShowsIn (Parked cause) w y core space → Walks w q core space (Some (walked.Parked cause n))
-  calls : (n : ℕ) → n ≤ 227 → instr_at w.image q ≡ Some Ecall → (y : Run) → ShowsShadow w y core space → fetch_shadow w y.shadow.pc ≡ Some (Hcall false) → HasState w y q → Walks w q core space (Some (walked.Call false n))
+-- the run after so many words of its shadow, where the outside answers so at each
+unfoldable pub words_on : World → (ℕ → Answer) → Run → ℕ → Run
+words_on w x r zero = r
+words_on w x r (suc n) = shadow_step w (x n) (words_on w x r n)
 
--- a walk, with this key for an HKEY, in each run that hart and memory show at word 1 of a block. The second hart and memory are those after it
+-- from word 1 of the block of the state q: after so many words, 227 at most, the shadow stands at the block of the next state, is parked, or is at the HCALL of the state's call, with the state as it was. Hart and memory show the run then
+pub data Walks (w : World) (x : ℕ → Answer) (r : Run) (q : State) (core : Core) (space : Space) : Option Walked → Type 0 where
+  arrives : (n : ℕ) → n ≤ 227 → ShowsShadow w (words_on w x r n) core space → (next : State) → next_state w.image w.files all_taken q ≡ Some next → StandsAt w (words_on w x r n) next
+      → Walks w x r q core space (Some (walked.Arrived n))
+  parks : (n : ℕ) → n ≤ 227 → (cause : Park) → ShowsIn (Parked cause) w (words_on w x r n) core space → ParksBy w q cause → Walks w x r q core space (Some (walked.Parked cause n))
+  calls : (n : ℕ) → n ≤ 227 → ShowsShadow w (words_on w x r n) core space → fetch_shadow w (words_on w x r n).shadow.pc ≡ Some (Hcall false) → instr_at w.image q ≡ Some Ecall → HasState w (words_on w x r n) q
+      → Walks w x r q core space (Some (walked.Call false n))
+
+-- a walk, with this key for an HKEY, in each run that hart and memory show at word 1 of a block, whatever the outside answers. The second hart and memory are those after it
 abbrev pub BlockIsOneInstruction : Layout → ℕ → Option Walked → Core → Space → Core → Space → Type 0
 BlockIsOneInstruction l key result c s d t =
-    (w : World) (r : Run) (q : State) → Accepted w → l ≡ w.image.layout → ShowsShadow w r c s → StandsAt w r q → key ≡ key_of (plan_of l q) → Walks w q d t result
+    (w : World) (x : ℕ → Answer) (r : Run) (q : State) → Accepted w → l ≡ w.image.layout → ShowsShadow w r c s → StandsAt w r q → key ≡ key_of (plan_of l q) → Walks w x r q d t result
