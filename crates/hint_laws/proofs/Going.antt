@@ -78,11 +78,11 @@ module _ (w : World) (a : Accepted w) (x : Answer) (r : Run) where
   own-memory f = ap (λ (q : State). q.memory) f.own
 
   -- what the program range has is left
-  program-left : WordLeaves w r next → program_in w next ≡ program_in w r
+  pub program-left : WordLeaves w r next → program_in w next ≡ program_in w r
   program-left f = ap (λ (q : State). program_byte l (rewritten_words w) q.memory) f.own
 
   -- what the shadow sees is alike still
-  alike-left : {m : Marks} {q : State} {d : Doing} → WordLeaves w r next → Leaves l r.shared next.shared d → is_restart d ≡ false → is_storing d ≡ false → SeesAlike l m (view_in r) q → SeesAlike l m (view_in next) q
+  pub alike-left : {m : Marks} {q : State} {d : Doing} → WordLeaves w r next → Leaves l r.shared next.shared d → is_restart d ≡ false → is_storing d ≡ false → SeesAlike l m (view_in r) q → SeesAlike l m (view_in next) q
   alike-left f leaves other quiet alike =
       record { bytes = λ b is_data unmarked. ap (λ (m : Memory). shadowed next.shared m b) (own-memory f) ∙ view-kept leaves other quiet r.own.memory b ∙ alike.bytes b is_data unmarked }
 

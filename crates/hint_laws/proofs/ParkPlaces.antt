@@ -3,19 +3,21 @@ use Rattle.std.proofs.Common.{◌≡◌, ℕ, zero, suc, ◌+◌, ◌-◌, ◌/�
 use Rattle.std.specs.Prelude.{◌≢◌}
 use Rattle.std.specs.Option.{option_and_then}
 use Rattle.std.proofs.lemmas.Option.{slice_get_within}
+use Rattle.std.proofs.lemmas.Bool.{and_parts}
 use Rattle.std.proofs.lemmas.Bool.Decides.{nat_tests}
 use Rattle.std.proofs.lemmas.Bool.{and_left, and_right}
 use Rattle.spec_base.specs.Word.{plus_int}
 use Rattle.spec_base.specs.Layout.{shadow_start, helpers_start}
 use Rattle.spec_base.specs.declared.layout.Layout.{Layout}
 use Rattle.spec_base.specs.declared.park.Park.{Park}
+use Rattle.spec_base.specs.declared.park.Park.TheVariants as park
 use Rattle.rv_decode.specs.declared.instr.Instr.{Instr}
 use Rattle.rv_decode.specs.declared.instr.Instr.TheVariants.{Lui, Auipc, Jal, Jalr, Branch, Load, Store, OpImm, OpImmW, Op, OpW, Fence, Ecall, Ebreak, Hgate, Hleave, Hsite, Hkey, Hstop, Hrestart, Hcall, Hpark, Illegal}
 use Rattle.rv_decode.specs.declared.instr.StoreOp.{StoreOp}
 use Rattle.rv_model.specs.Effect.{after, fetched}
 use Rattle.program_model.specs.PlainRun.{text_of}
 use Rattle.code_model.specs.Helpers.{helpers}
-use Rattle.code_model.specs.Blocks.{block, guard_block, blocks_from, with_pad, jal_if, is_target, load_restore, link_spill, access_words, store_helper, store_end}
+use Rattle.code_model.specs.Blocks.{block, guard_block, blocks_from, with_pad, jal_if, is_target, load_restore, link_spill, taken_word, access_words, store_helper, store_end}
 use Rattle.run_model.specs.Run.{World}
 use Rattle.run_model.specs.ShadowMoves.{fetch_shadow, fetch_by, block_word, is_arrival}
 use Rattle.run_model.specs.HintLaws.{is_behind_call}
@@ -164,6 +166,84 @@ helper-arrival l pc h = let beyond : nat_lt pc helpers_start ≡ false = grind (
 -- and it is behind no call
 pub helper-call : (w : World) (pc : ℕ) → nat_le helpers_start pc ≡ true → is_behind_call w pc ≡ false
 helper-call w pc h = let beyond : nat_lt pc helpers_start ≡ false = grind (arith, nat_tests, h) in and_right (nat_le shadow_start pc) _ (and_left _ _ beyond)
+
+-- ---- why it parks
+
+-- whether an instruction is no HPARK of a cause that only a call has
+abbrev pub is_named : Instr → Bool
+is_named (Hpark park.Exit) = false
+is_named (Hpark park.Store) = false
+is_named _ = true
+
+-- each of these is none
+abbrev all_named : List Instr → Bool
+all_named [] = true
+all_named (i ∷ words) = is_named i && all_named words
+
+-- so the one at a number is none
+named-each : (words : List Instr) → all_named words ≡ true → (k : ℕ) (i : Instr) → slice_get words k ≡ Some i → is_named i ≡ true
+named-each [] h k i e = none_some e
+named-each (j ∷ words) h zero i e = let is : j ≡ i = cc in subst (λ (x : Instr). is_named x ≡ true) is (and_parts (is_named j) (all_named words) h).0
+named-each (j ∷ words) h (suc k) i e = named-each words (and_parts (is_named j) (all_named words) h).1 k i e
+
+-- the blocks with a choice
+jal-named : (b : Bool) (l : Layout) (p rd t : ℕ) → all_named (with_pad (jal_if b l p rd t)) ≡ true
+jal-named true l p rd t = refl
+jal-named false l p rd t = refl
+
+spill-named : (b : Bool) → is_named (link_spill b) ≡ true
+spill-named true = refl
+spill-named false = refl
+
+taken-named : (b : Bool) (l : Layout) (p t : ℕ) → is_named (taken_word b l p t) ≡ true
+taken-named true l p t = refl
+taken-named false l p t = refl
+
+restore-named : (b : Bool) → is_named (load_restore b) ≡ true
+restore-named true = refl
+restore-named false = refl
+
+store-named : (b : Bool) (op : StoreOp) (rs1 rs2 : ℕ) (imm : ℤ) → all_named (with_pad (access_words (store_helper op) rs1 imm ++ store_end b op rs2)) ≡ true
+store-named true op rs1 rs2 imm = refl
+store-named false op rs1 rs2 imm = refl
+
+-- each block
+block-named : (l : Layout) (p : ℕ) (i : Instr) → all_named (block l p i) ≡ true
+block-named l p (Jal rd imm) = jal-named (is_target l (plus_int p imm)) l p rd (plus_int p imm)
+block-named l p (Jalr rd rs1 imm) = ap (λ (b : Bool). b && true) (spill-named (rd == 31))
+block-named l p (Branch op rs1 rs2 imm) = ap (λ (b : Bool). b && true) (taken-named (is_target l (plus_int p imm)) l p (plus_int p imm))
+block-named l p (Load op rd rs1 imm) = ap (λ (b : Bool). b && true) (restore-named (rd == 31))
+block-named l p (Store op rs1 rs2 imm) = store-named (rs2 == 31) op rs1 rs2 imm
+block-named l p _ = refl
+
+-- each block of a text, and the guard block
+blocks-named : (l : Layout) (p : ℕ) (text : List Instr) (j : ℕ) (words : List Instr) → slice_get (blocks_from l p text) j ≡ Some words → all_named words ≡ true
+blocks-named l p [] zero words e = let is : guard_block ≡ words = cc in subst (λ (ws : List Instr). all_named ws ≡ true) is refl
+blocks-named l p [] (suc j) words e = none_some e
+blocks-named l p (i ∷ text) zero words e = let is : block l p i ≡ words = cc in subst (λ (ws : List Instr). all_named ws ≡ true) is (block-named l p i)
+blocks-named l p (i ∷ text) (suc j) words e = blocks-named l (p + 4) text j words e
+
+-- the helpers
+helpers-named : (l : Layout) → all_named (helpers l) ≡ true
+helpers-named l = refl
+
+-- an HPARK that the shadow fetches is none
+pub park-named : (w : World) (pc : ℕ) (i : Instr) → fetch_shadow w pc ≡ Some i → is_named i ≡ true
+park-named w pc i e = by_tests (nat_le helpers_start pc) (nat_le shadow_start pc && (pc % 4 == 0)) e
+  where
+    by_block : (o : Option (List Instr)) → slice_get (blocks_from w.image.layout w.image.layout.text_start (text_of w.image)) ((pc - shadow_start) / 64) ≡ o
+        → option_and_then (λ words. slice_get words ((pc % 64) / 4)) o ≡ Some i → is_named i ≡ true
+    by_block None f e = none_some e
+    by_block (Some words) f e = named-each words (blocks-named w.image.layout w.image.layout.text_start (text_of w.image) ((pc - shadow_start) / 64) words f) ((pc % 64) / 4) i e
+
+    by_helper : (b : Bool) → elim b [ true ↦ slice_get (helpers w.image.layout) ((pc - helpers_start) / 4) | false ↦ None ] ≡ Some i → is_named i ≡ true
+    by_helper true e = named-each (helpers w.image.layout) (helpers-named w.image.layout) ((pc - helpers_start) / 4) i e
+    by_helper false e = none_some e
+
+    by_tests : (b c : Bool) → fetch_by b c w pc ≡ Some i → is_named i ≡ true
+    by_tests true c e = by_helper (nat_le helpers_start pc && (pc % 4 == 0)) e
+    by_tests false true e = by_block (slice_get (blocks_from w.image.layout w.image.layout.text_start (text_of w.image)) ((pc - shadow_start) / 64)) refl e
+    by_tests false false e = none_some e
 
 -- ---- behind it
 

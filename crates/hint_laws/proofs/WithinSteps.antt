@@ -1,5 +1,4 @@
 -- Each word of a shadow that follows the program leads to a row of what it is doing, to the next block, or to a park, and what it leaves of what is shared.
-use Rattle.std.specs.Prelude.{⊤}
 use Rattle.std.proofs.Common.{◌≡◌, ℕ, zero, suc, ◌+◌, ◌*◌, ◌%◌, ◌<◌, ◌⊎◌, inl, inr, Bool, true, false, ◌&&◌, ◌==◌, nat_lt, nat_le, lit<, ℤ, List, Option, Some, None, refl, ◌∙◌, ap, sym, subst, arith}
 use Rattle.std.proofs.lemmas.Bool.Decides.{nat_tests}
 use Rattle.spec_base.specs.Word.{plus_int, word_of_int}
@@ -108,7 +107,7 @@ pub data Stops (l : Layout) (cause : Park) : Doing → Type 0 where
   flow_faults : {p : ℕ} {i : Instr} {q : Regs} → FlowFaults l p i q cause → Stops l cause (does p i q)
   load_faults : {p : ℕ} {op : LoadOp} {rd rs1 : ℕ} {imm : ℤ} {q : Regs} → AccessFaults l (load_size op) (plus_int (get rs1 q) imm) cause → Stops l cause (does p (Load op rd rs1 imm) q)
   store_parks : {p : ℕ} {op : StoreOp} {rs1 rs2 : ℕ} {imm : ℤ} {q : Regs} (bytes : ℕ → Option ℕ) (t0 : Tabs) → StoreParks l p op rs1 rs2 imm q bytes t0 cause → Stops l cause (does p (Store op rs1 rs2 imm) q)
-  call_parks : {p : ℕ} {q : Regs} → Stops l cause (does p Ecall q)
+  call_parks : {p : ℕ} {q : Regs} → cause ≡ park.LogFull → Stops l cause (does p Ecall q)
   leaves_text : {q : Regs} → GuardFaults l cause → Stops l cause (ends q)
   last_site : {to : ℕ} {q : Regs} → cause ≡ park.Fault → to ≡ l.text_end → Stops l cause (goes_to to q)
   exits : {d : Doing} → (cause ≡ park.Exit) ⊎ (cause ≡ park.Store) → Stops l cause d
@@ -539,13 +538,13 @@ module _ (w : World) (a : Accepted w) (x : Answer) (r : Run) (z : Sized (stock_o
       (λ p s y has. (stores t0 y.0 (copies-kept at.point.tabs s.tabs r.shared after.shared at.shown.tabs has y.1.copies), quiet)) (λ cause t m why. store_parks bytes t0 why.0) (landed w a x r z at d)
   within-leads {n = n} sees (calling p q is at before) =
       let d = any_call-leads l p q program is r.shared at.ok at.row in
-      settles (λ s k less inner row v ok. called p q is at before (quiet d) s k less inner row v ok) (λ p s y has. false_true (sym before ∙ y)) (λ cause t m why. call_parks) (landed w a x r z at d)
+      settles (λ s k less inner row v ok. called p q is at before (quiet d) s k less inner row v ok) (λ p s y has. false_true (sym before ∙ y)) (λ cause t m why. call_parks why) (landed w a x r z at d)
     where
       stays-so : {rs : Regs} {place : Place} {s : Priv} {t : Tabs} {m : Memory} {k : ℕ} → is_sixth at.point.place ≡ false → AnyCallNext l p q at.point.place at.point.tabs r.shared place rs s t m k → LeavesTables r.shared m
       stays-so e (any.word row first other leaves) = leaves
       stays-so e (any.call answer from) = false_true (sym e ∙ ap is_sixth from)
 
-      quiet : Led l program (block_at l p) (AnyCallNext l p q at.point.place at.point.tabs r.shared) (λ target rs t m. is_seventh at.point.place ≡ true) (λ cause t m. ⊤) n (exec_some (block_at l p) (code l (block l p Ecall) at.point.place) at.point r.shared)
+      quiet : Led l program (block_at l p) (AnyCallNext l p q at.point.place at.point.tabs r.shared) (λ target rs t m. is_seventh at.point.place ≡ true) (λ cause t m. cause ≡ park.LogFull) n (exec_some (block_at l p) (code l (block l p Ecall) at.point.place) at.point r.shared)
           → is_sixth at.point.place ≡ false → IsQuiet w r
       quiet d e = quiet-by at (LeavesTables r.shared) (λ f. not-raised r.shared table_start (f table_start (omega arith))) (λ s m k row. stays-so e row) (λ p s m y. false_true (sym before ∙ y)) d
   within-leads {n = n} sees (answered p answer q is at) = behind-call p answer q is at

@@ -1,10 +1,10 @@
 -- The words of a call's block, and of APPEND, whatever the hint log has: each leads to its next row, to the next block, or to a park.
 use Rattle.std.proofs.Common.{◌≡◌, ℕ, ◌+◌, ◌*◌, ◌%◌, ◌≤◌, inr, Bool, true, false, ◌==◌, pos, refl, arith, bit_and}
-use Rattle.std.specs.Prelude.{⊤}
 use Rattle.std.proofs.lemmas.Nat.{and_mask}
 use Rattle.spec_base.specs.Word.{wrap, plus_int, byte_of}
 use Rattle.spec_base.specs.Layout.{helpers_start, link_start, table_start}
 use Rattle.spec_base.specs.declared.layout.Layout.{Layout}
+use Rattle.spec_base.specs.declared.park.Park.TheVariants as park
 use Rattle.rv_decode.specs.declared.instr.Instr.TheVariants.{Ecall}
 use Rattle.rv_model.specs.Memory.{Memory, stored}
 use Rattle.rv_model.specs.Effect.{even}
@@ -148,7 +148,7 @@ module _ (l : Layout) (p : ℕ) (q : Regs) where
 
   module _ (program : Memory) (is : IsSite l p) where
     abbrev led : Place → Tabs → Memory → ℕ → Out → Type 0
-    led from t m n o = Led l program (block_at l p) (AnyCallNext from t m) (λ target rs t' m'. is_seventh from ≡ true) (λ cause t' m'. ⊤) n o
+    led from t m n o = Led l program (block_at l p) (AnyCallNext from t m) (λ target rs t' m'. is_seventh from ≡ true) (λ cause t' m'. cause ≡ park.LogFull) n o
 
     abbrev leads : ℕ → Place → Regs → Priv → Tabs → Memory → Type 0
     leads n place rs s t m = led place t m n (exec_some (block_at l p) (code l (block l p Ecall) place) (record { place = place; regs = rs; priv = s; tabs = t }) m)
@@ -209,4 +209,4 @@ module _ (l : Layout) (p : ℕ) (q : Regs) where
         arrives (p + 4) (omega (arith, is.above, is.below, text.few))
         (record { above = omega (arith, is.above); below = omega (arith, is.below, is.whole, text.end); whole = omega (arith, is.above, is.whole, text.start) })
         refl ok
-    any_call-leads m ok (full rs s) = parks tt ok
+    any_call-leads m ok (full rs s) = parks refl ok

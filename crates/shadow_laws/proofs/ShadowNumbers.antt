@@ -97,7 +97,7 @@ size_in-small files h name size e = by_content (files name) refl e
 
 module _ (l : Layout) (words : List ℕ) (program : Memory) (own : Bytes program) where
   -- a byte of the program range
-  program-bytes : Bytes (program_byte l words program)
+  pub program-bytes : Bytes (program_byte l words program)
   program-bytes a = elim-below (in_text l a) (text_byte l words a) (program a) 256 (byte_of-below _ _) (own a)
 
   -- a byte of the shadow's view
@@ -346,7 +346,7 @@ module _ (w : World) (h : FileBytes w.files) where
       (after-keeps x r _ (effect-words (shadow_rights w.image.layout) view r.shadow.registers r.shadow.pc z.registers bytes i) z)
 
   -- a word, if the shadow is running
-  in-keeps : (s : ShadowState) (x : Answer) (r : Run) → Keeps r → Keeps (shadow_in s w x r)
+  pub in-keeps : (s : ShadowState) (x : Answer) (r : Run) → Keeps r → Keeps (shadow_in s w x r)
   in-keeps Running x r z = word-keeps x r (fetch_shadow w r.shadow.pc) z
   in-keeps Never x r z = z
   in-keeps Stopped x r z = z

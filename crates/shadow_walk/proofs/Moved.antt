@@ -20,7 +20,7 @@ use Rattle.machine_laws.proofs.Steps.{steps_same}
 use Rattle.machine_laws.proofs.Gates.{effects_of_view}
 use Rattle.hart_mem.specs.Held.{Held, lacks_frame}
 use Rattle.hart_step.specs.Core.{Core}
-use Rattle.hart_step.specs.Step.{Outcome, stepped, gate_outcome, gone_on, effect_here}
+use Rattle.hart_step.specs.Step.{Outcome, stepped, store_outcome, gate_outcome, gone_on, effect_here}
 use Rattle.hart_step.specs.declared.event.Event.TheVariants as event
 use Rattle.shadow_walk.specs.Shows.{ShowsIn, ShowsShadow, AtKey, MovesBy}
 use Rattle.shadow_walk.proofs.Effects.{gate_word}
@@ -131,3 +131,29 @@ never_starved h (Stored a width value) c s q = cc
 never_starved h (Trapped cause) c s q = cc
 never_starved h Called c s q = cc
 never_starved h (Gated gate) c s q = gate-starves_not gate c s q
+
+-- ---- the view
+
+-- a gate of the shadow's view leaves it
+gate-view : (gate : Instr) (c : Core) (s : Space) → c.view ≡ Shadow → gate_effect Shadow gate ≡ Gated gate → (gate_outcome gate c s).core.view ≡ Shadow
+gate-view (Hkey rd) c s e v = e
+gate-view (Hcall unhinted) c s e v = e
+gate-view (Hpark cause) c s e v = e
+gate-view _ c s e v = absurd cc
+
+-- so does a store
+store-view : (b : Bool) (c : Core) (s : Space) (a width v : ℕ) → c.view ≡ Shadow → (store_outcome b c s a width v).core.view ≡ Shadow
+store-view true c s a width v e = e
+store-view false c s a width v e = e
+
+-- and each effect of a word of the view
+effect-view : (lacks : ℕ → Bool) (e : Effect) (c : Core) (s : Space) → c.view ≡ Shadow → IsOfView Shadow e → (stepped lacks e c s).core.view ≡ Shadow
+effect-view lacks (Next rs pc) c s e v = e
+effect-view lacks (Stored a width value) c s e v = store-view (lacks a) c s a width value e
+effect-view lacks (Trapped cause) c s e v = e
+effect-view lacks Called c s e v = absurd cc
+effect-view lacks (Gated gate) c s e v = gate-view gate c s e v
+
+-- a step of a hart in the shadow's view leaves it there
+pub stays_in_view : (lacks : ℕ → Bool) (c : Core) (s : Space) → c.view ≡ Shadow → (stepped lacks (effect_here c s) c s).core.view ≡ Shadow
+stays_in_view lacks c s e = effect-view lacks (effect_here c s) c s e (subst (λ (v : View). IsOfView v (effect_here c s)) e (effects_of_view c.view s c.registers c.pc))

@@ -22,6 +22,7 @@ pub fn advance(hart: &mut Hart, mem: &mut Mem) -> Event
     requires shadow { (core_of hart.old).view ≡ View.Shadow }
     ensures outcome { outcome result (core_of hart.new) (space_of mem.new) ≡ stepped (lacks_frame (core_of hart.old).view mem.old) (effect_here (core_of hart.old) (space_of mem.old)) (core_of hart.old) (space_of mem.old) }
     ensures memory { result ≢ Event.Done → mem.new ≡ mem.old }
+    ensures view { (core_of hart.new).view ≡ View.Shadow }
     ensures never_starved { result ≢ Event.NoMemory }
     ensures spare { (spare_of mem.new ≤ spare_of mem.old) × (spare_of mem.old ≤ spare_of mem.new + 1) }
     ensures moves { (w : World) (r : Run) → Accepted w → ShowsShadow w r (core_of hart.old) (space_of mem.old) →

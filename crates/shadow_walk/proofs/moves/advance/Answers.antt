@@ -4,8 +4,14 @@ use Rattle.hart_mem.specs.Held.{lacks_frame, space_of}
 use Rattle.hart_step.specs.Core.{core_of}
 use Rattle.hart_step.specs.Step.{Outcome, stepped, effect_here}
 use Rattle.shadow_walk.specs.Shows.{MovesBy}
-use Rattle.shadow_walk.proofs.Moved.{moves_by, never_starved}
+use Rattle.shadow_walk.proofs.Moved.{moves_by, never_starved, stays_in_view}
 use Rattle.shadow_walk.proofs.moves.advance.Goals as goal
+
+pub returns-clause-view : goal.returns-clause-view
+returns-clause-view c =
+    let h = core_of c.args.hart.now in
+    let s = space_of c.args.mem.now in
+    ap (λ (o : Outcome). o.core.view) c.step.ensures.outcome ∙ stays_in_view (lacks_frame h.view c.args.mem.now) h s c.requires.shadow
 
 pub returns-clause-never_starved : goal.returns-clause-never_starved
 returns-clause-never_starved c q =

@@ -1,0 +1,286 @@
+-- Each turn of the walk: a hart and a memory that show a run on its way through a block, and what the event of a step makes of them.
+use Rattle.std.proofs.Common.{◌≡◌, ℕ, suc, ◌+◌, ◌-◌, ◌<◌, ◌≤◌, ◌⊎◌, inl, inr, Bool, true, false, Option, Some, None, refl, ◌∙◌, ap, ap₂, sym, subst, arith}
+use Rattle.std.specs.Prelude.{⊤, ◌≢◌}
+use Rattle.spec_base.specs.declared.layout.Layout.{Layout}
+use Rattle.spec_base.specs.declared.note.ShadowState.TheVariants.{Running, Parked}
+use Rattle.spec_base.specs.declared.park.Park.{Park}
+use Rattle.spec_base.specs.declared.park.Park.TheVariants as park
+use Rattle.rv_decode.specs.declared.instr.Instr.{Instr}
+use Rattle.rv_decode.specs.declared.instr.Instr.TheVariants.{Ecall, Hkey, Hcall, Hpark}
+use Rattle.rv_model.specs.Memory.{Memory}
+use Rattle.rv_model.specs.Registers.{Registers, reg, with_reg}
+use Rattle.rv_model.specs.Rights.{is_data}
+use Rattle.rv_model.specs.Effect.{after}
+use Rattle.rv_model.specs.Space.{Space}
+use Rattle.program_model.specs.Calls.{CallPlan, key_of, call_plan}
+use Rattle.program_model.specs.PlainRun.{State, all_taken, next_state, plan_of}
+use Rattle.run_model.specs.Run.{World, Run, Answer}
+use Rattle.run_model.specs.ShadowMoves.{is_arrival, is_call_word, shadow_step, shadow_plan, fetch_shadow}
+use Rattle.run_model.specs.OwnLaws.{Accepted}
+use Rattle.run_model.specs.Restarts.{instr_at}
+use Rattle.run_model.specs.Marks.{no_marks}
+use Rattle.side_model.specs.Hart.{Regs, get}
+use Rattle.side_model.specs.Sees.{shade_of, HasRegs}
+use Rattle.side_model.specs.Completes.{WordCompletes}
+use Rattle.own_laws.proofs.Reached.{false_true}
+use Rattle.shadow_laws.proofs.Sound.{Standing}
+use Rattle.mark_laws.specs.Agreement.{Agrees, SeesAlike, planned}
+use Rattle.mark_laws.proofs.OneCall.{plan_agrees}
+use Rattle.hint_laws.proofs.Within.{Doing, does, ends}
+use Rattle.hint_laws.proofs.WithinFacts.{within-stands}
+use Rattle.hint_laws.proofs.WithinSteps.{IsQuiet}
+use Rattle.hint_laws.proofs.Followed.{known, registers, view_in, DoesOf, instruction, text_end, restart, is_storing, is_restart}
+use Rattle.hint_laws.proofs.Views.{has-registers}
+use Rattle.hint_laws.proofs.WordFacts.{parked_running}
+use Rattle.hint_laws.proofs.ParkPlaces.{is_named, park-named}
+use Rattle.hint_laws.proofs.Spots.{within-running}
+use Rattle.mark_laws.proofs.OneInstruction.{true_false}
+use Rattle.hart_mem.specs.Held.{Held, lacks_frame}
+use Rattle.hart_step.specs.Core.{Core}
+use Rattle.hart_step.specs.Step.{Outcome, outcome, stepped, effect_here}
+use Rattle.hart_step.specs.declared.event.Event.{Event}
+use Rattle.hart_step.specs.declared.event.Event.TheVariants as event
+use Rattle.shadow_walk.specs.Shows.{ShowsIn, ShowsShadow, AtKey, AtCall, MovesBy}
+use Rattle.shadow_walk.specs.Walks.{words_on, HasState, StandsAt, ParksBy, Walks, arrives, parks, calls}
+use Rattle.shadow_walk.specs.declared.walking.Walked.TheVariants as walked
+use Rattle.shadow_walk.proofs.Told.{Tells, tells}
+use Rattle.shadow_walk.proofs.OnTheWay.{of-sized, use-none, Walking, walking-sees, Started, starts}
+use Rattle.shadow_walk.proofs.WalkEnds.{OnInstruction, on-instruction}
+use Rattle.shadow_walk.proofs.WalkRows as asks
+use Rattle.shadow_walk.proofs.WalkRows.{SomeLeft, within-some, is_other, Asks, AsksIn, within-asks, Completing, within-completes}
+use Rattle.shadow_walk.proofs.WalkWords as word
+use Rattle.shadow_walk.proofs.WalkWords.{Went, went, shown-register}
+
+-- ---- on the way
+
+-- hart and memory show a run on its way through the block of the state q, so many words behind the run r, and the next word is that of this number, counted from 1, of 227 at most
+pub record Striding (w : World) (x : ℕ → Answer) (r : Run) (q : State) (words : ℕ) (c : Core) (s : Space) : Type 0 where
+  pub run : Run
+  pub before : ℕ
+  pub number : words ≡ suc before
+  pub made : run ≡ words_on w x r before
+  pub doing : Doing
+  pub left : ℕ
+  pub shows : ShowsShadow w run c s
+  pub walking : Walking w q run doing left
+  pub few : words + left ≤ 228
+
+-- so it is in each run that they showed at word 1 of a block
+abbrev pub OnWay : Layout → ℕ → Core → Space → ℕ → Core → Space → Type 0
+OnWay l key c s words d t =
+    (w : World) (x : ℕ → Answer) (r : Run) (q : State) → Accepted w → l ≡ w.image.layout → ShowsShadow w r c s → StandsAt w r q → key ≡ key_of (plan_of l q) → Striding w x r q words d t
+
+-- at word 1
+pub sets_out : (l : Layout) (key : ℕ) (c : Core) (s : Space) → OnWay l key c s 1 c s
+unfolding words_on
+sets_out l key c s w x r q a same shows at is_key =
+    let f : Started w q r = starts w a r q shows.state at in record { run = r; before = 0; number = refl; made = refl; doing = f.d; left = f.n; shows = shows; walking = f.walking; few = omega (arith, f.few) }
+
+-- ---- a step
+
+-- the step of a hart and a memory, as the walk knows it
+pub record Stepped (h : Held) (c : Core) (s : Space) (e : Event) (d : Core) (t : Space) : Type 0 where
+  pub outcome : outcome e d t ≡ stepped (lacks_frame c.view h) (effect_here c s) c s
+  pub moves : (w : World) (r : Run) → Accepted w → ShowsShadow w r c s → MovesBy e w r c s d t
+
+-- behind a word the shadow is on its way still, or at the block of the next state
+pub data Turned (w : World) (x : ℕ → Answer) (r : Run) (q : State) (words : ℕ) (d : Core) (t : Space) : Type 0 where
+  goes_on : is_arrival w.image.layout d.pc ≡ false → Striding w x r q (words + 1) d t → Turned w x r q words d t
+  comes : is_arrival w.image.layout d.pc ≡ true → Walks w x r q d t (Some (walked.Arrived words)) → Turned w x r q words d t
+
+-- which of both, the test of the pc tells
+pub comes_there : {w : World} {x : ℕ → Answer} {r : Run} {q : State} {words : ℕ} {d : Core} {t : Space} → Turned w x r q words d t → is_arrival w.image.layout d.pc ≡ true → Walks w x r q d t (Some (walked.Arrived words))
+comes_there (comes there walks) e = walks
+comes_there (goes_on between k) e = false_true (sym between ∙ e)
+
+pub goes_between : {w : World} {x : ℕ → Answer} {r : Run} {q : State} {words : ℕ} {d : Core} {t : Space} → Turned w x r q words d t → is_arrival w.image.layout d.pc ≡ false → Striding w x r q (words + 1) d t
+goes_between (goes_on between k) e = k
+goes_between (comes there walks) e = false_true (sym e ∙ there)
+
+-- another event than those that a walk takes up
+abbrev pub IsStray : Event → Type 0
+IsStray event.Done = ⊥
+IsStray (event.Key rd) = ⊥
+IsStray (event.Park cause) = ⊥
+IsStray (event.Call unhinted) = ⊥
+IsStray _ = ⊤
+
+pub is-stray : (e : Event) → e ≢ event.Done → ((rd : ℕ) → e ≢ event.Key rd) → ((cause : Park) → e ≢ event.Park cause) → ((unhinted : Bool) → e ≢ event.Call unhinted) → IsStray e
+is-stray event.Done d k p c = d refl
+is-stray (event.Key rd) d k p c = k rd refl
+is-stray (event.Park cause) d k p c = p cause refl
+is-stray (event.Call unhinted) d k p c = c unhinted refl
+is-stray _ d k p c = tt
+
+-- words are left on an instruction
+some-left : {w : World} {q : State} {d : Doing} {n : ℕ} → DoesOf w q d → is_restart d ≡ false → SomeLeft d n → 0 < n
+some-left (instruction i g e has) plain some = some
+some-left (text_end g e) plain some = some
+some-left (restart g e) plain some = true_false plain
+
+-- each word completes there
+completing : {w : World} {q : State} {r : Run} {d : Doing} → DoesOf w q d → is_restart d ≡ false → Completing w r d → WordCompletes w r
+completing (instruction i g e has) plain c = c
+completing (text_end g e) plain c = c
+completing (restart g e) plain c = true_false plain
+
+module _ (w : World) (a : Accepted w) {x : ℕ → Answer} {r : Run} {q : State} {words : ℕ} {h : Held} {c : Core} {s : Space} {e : Event} {d : Core} {t : Space} (step : Stepped h c s e d t) (k : Striding w x r q words c s) where
+  abbrev l : Layout
+  l = w.image.layout
+
+  abbrev y : Run
+  y = k.run
+
+  abbrev next : Run
+  next = shadow_step w (x k.before) y
+
+  -- the word makes the next run
+  made-next : next ≡ words_on w x r (suc k.before)
+  unfolding words_on
+  made-next = ap (shadow_step w (x k.before)) k.made
+
+  made-words : next ≡ words_on w x r words
+  made-words = made-next ∙ ap (words_on w x r) (sym k.number)
+
+  -- what the event tells
+  told : Tells e w y
+  told = subst (λ (e : Event). Tells e w y) (sym (ap (λ (o : Outcome). o.event) step.outcome)) (tells w a y h c s k.shows)
+
+  moved : MovesBy e w y c s d t
+  moved = step.moves w y a k.shows
+
+  few : words ≤ 227
+  few = omega (arith, k.few, some-left k.walking.doing k.walking.plain (within-some k.walking.within))
+
+  -- a word that isn't an HCALL, and behind which the shadow runs
+  behind : (m : Core) (u : Space) → is_call_word (fetch_shadow w y.shadow.pc) ≡ false → ShowsShadow w next m u → Turned w x r q words m u
+  behind m u quiet shows = by_word (went w a (x k.before) k.walking)
+    where
+      by_word : Went w q y next k.left → Turned w x r q words m u
+      by_word (word.still f j less between walking) =
+          goes_on (ap (is_arrival l) shows.pc ∙ between) (record { run = next; before = suc k.before; number = ap (λ (n : ℕ). n + 1) k.number ∙ omega arith; made = made-next; doing = f; left = j; shows = shows; walking = walking; few = omega (arith, k.few, less) })
+      by_word (word.came to completes there at runs) = comes (ap (is_arrival l) shows.pc ∙ there) (arrives words few (subst (λ (r : Run). ShowsShadow w r m u) made-words shows) to completes (subst (λ (r : Run). StandsAt w r to) made-words at))
+      by_word (word.calls f) = false_true (sym quiet ∙ ap is_call_word f)
+      by_word (word.halted cause state why) = parked_running (sym state ∙ shows.state)
+
+  -- ---- each event
+
+  pub done : e ≡ event.Done → Turned w x r q words d t
+  done is =
+      let quiet : IsQuiet w y = subst (λ (e : Event). Tells e w y) is told in
+      let move : (z : Answer) → ShowsShadow w (shadow_step w z y) d t = subst (λ (e : Event). MovesBy e w y c s d t) is moved in
+      behind d t quiet (move (x k.before))
+
+  -- an HPARK
+  pub parked : (cause : Park) → e ≡ event.Park cause → Walks w x r q d t (Some (walked.Parked cause words))
+  parked cause is = by_word (went w a (x k.before) k.walking)
+    where
+      hpark : fetch_shadow w y.shadow.pc ≡ Some (Hpark cause)
+      hpark = subst (λ (e : Event). Tells e w y) is told
+
+      shows : ShowsIn (Parked cause) w next d t
+      shows = (subst (λ (e : Event). MovesBy e w y c s d t) is moved) (x k.before)
+
+      named : is_named (Hpark cause) ≡ true
+      named = park-named w y.shadow.pc (Hpark cause) hpark
+
+      by_why : ParksBy w q cause ⊎ ((cause ≡ park.Exit) ⊎ (cause ≡ park.Store)) → Walks w x r q d t (Some (walked.Parked cause words))
+      by_why (inl why) = parks words few cause (subst (λ (r : Run). ShowsIn (Parked cause) w r d t) made-words shows) why
+      by_why (inr (inl f)) = false_true (ap (λ (cause : Park). is_named (Hpark cause)) (sym f) ∙ named)
+      by_why (inr (inr f)) = false_true (ap (λ (cause : Park). is_named (Hpark cause)) (sym f) ∙ named)
+
+      by_word : Went w q y next k.left → Walks w x r q d t (Some (walked.Parked cause words))
+      by_word (word.still f j less between walking) = parked_running (sym shows.state ∙ within-running walking.within)
+      by_word (word.came to completes there at runs) = parked_running (sym shows.state ∙ runs)
+      by_word (word.calls f) = false_true (ap is_call_word (sym hpark ∙ f))
+      by_word (word.halted other state why) =
+          let same : other ≡ cause = let f : Parked other ≡ Parked cause = sym state ∙ shows.state in cc in
+          by_why (subst (λ (cause : Park). ParksBy w q cause ⊎ ((cause ≡ park.Exit) ⊎ (cause ≡ park.Store))) same why)
+
+  -- what an HKEY or an HCALL is asked with
+  asked : (gate : Instr) → fetch_shadow w y.shadow.pc ≡ Some gate → is_other (Some gate) ≡ false → AsksIn gate y.shadow.registers k.doing
+  asked gate f g = within-asks w y gate f g k.walking.within
+
+  -- the plan in the registers of a call is the state's
+  same-plan : (g : Regs) → SeesAlike l no_marks (view_in y) q → Agrees no_marks (registers g) q → reg y.shadow.registers 10 ≡ get 10 g → reg y.shadow.registers 11 ≡ get 11 g → reg y.shadow.registers 12 ≡ get 12 g
+      → reg y.shadow.registers 17 ≡ get 17 g → shadow_plan w y ≡ plan_of l q
+  same-plan g sees agrees e10 e11 e12 e17 =
+      let same : shadow_plan w y ≡ planned l (view_in y) y.shadow.files (registers g) = (λ i. call_plan (is_data l) (view_in y) y.shadow.files (e17 i) (e10 i) (e11 i) (e12 i)) in
+      same ∙ plan_agrees l no_marks (view_in y) y.shadow.files (registers g) q sees agrees k.walking.files (use-none l q Ecall)
+
+  -- an HKEY, to which the key of the state's call is given
+  pub keyed : (rd key : ℕ) → e ≡ event.Key rd → (m : Layout) → m ≡ l → key ≡ key_of (plan_of m q) → Turned w x r q words (record d { registers = with_reg d.registers rd key; pc = after d.pc }) t
+  keyed rd number is m same_layout is_key = by_doing k.doing (on-instruction k.walking.doing k.walking.plain k.walking.agrees) refl (asked (Hkey rd) at.word refl)
+    where
+      at : AtKey rd w y c s d t
+      at = subst (λ (e : Event). MovesBy e w y c s d t) is moved
+
+      by_key : key_of (shadow_plan w y) ≡ number → Turned w x r q words (record d { registers = with_reg d.registers rd number; pc = after d.pc }) t
+      by_key f =
+          behind (record d { registers = with_reg d.registers rd number; pc = after d.pc }) t (ap is_call_word at.word)
+          (subst (λ (c : Core). ShowsShadow w next (record c { registers = with_reg c.registers rd number; pc = after c.pc }) t) (sym at.hart)
+          (subst (λ (s : Space). ShowsShadow w next (record c { registers = with_reg c.registers rd number; pc = after c.pc }) s) (sym at.memory)
+          (subst (λ (v : ℕ). ShowsShadow w next (record c { registers = with_reg c.registers rd v; pc = after c.pc }) s) f (at.answered (x k.before)))))
+
+      by_asks : (p : ℕ) (i : Instr) (g : Regs) → OnInstruction w q (does p i g) → does p i g ≡ k.doing → i ≡ Ecall → Asks (Hkey rd) y.shadow.registers g → Turned w x r q words (record d { registers = with_reg d.registers rd number; pc = after d.pc }) t
+      by_asks p i g on same call (asks.key rd' f e10 e11 e12 e17) =
+          let quiet : is_storing k.doing ≡ false = ap is_storing (sym same) ∙ ap (λ (i : Instr). is_storing (does p i g)) call in
+          by_key (ap key_of (same-plan g (k.walking.sees quiet) on.3 e10 e11 e12 e17) ∙ ap (λ (l : Layout). key_of (plan_of l q)) (sym same_layout) ∙ sym is_key)
+      by_asks p i g on same call (asks.call f has) = absurd cc
+
+      by_doing : (f : Doing) → OnInstruction w q f → f ≡ k.doing → AsksIn (Hkey rd) y.shadow.registers f → Turned w x r q words (record d { registers = with_reg d.registers rd number; pc = after d.pc }) t
+      by_doing (does p i g) on same f = by_asks p i g on same f.0 f.1
+      by_doing (ends g) on same f = absurd f
+      by_doing _ on same f = absurd on
+
+  -- an HCALL
+  pub called : (unhinted : Bool) → e ≡ event.Call unhinted → Walks w x r q d t (Some (walked.Call unhinted (words - 1)))
+  called unhinted is = by_doing k.doing (on-instruction k.walking.doing k.walking.plain k.walking.agrees) refl (asked (Hcall unhinted) at.word refl)
+    where
+      at : AtCall unhinted w y c s d t
+      at = subst (λ (e : Event). MovesBy e w y c s d t) is moved
+
+      made-before : y ≡ words_on w x r (words - 1)
+      made-before = k.made ∙ ap (words_on w x r) (omega (arith, k.number))
+
+      shows : ShowsShadow w y d t
+      shows = subst (λ (c : Core). ShowsShadow w y c t) (sym at.hart) (subst (λ (s : Space). ShowsShadow w y c s) (sym at.memory) k.shows)
+
+      state : (g : Regs) → SeesAlike l no_marks (view_in y) q → Agrees no_marks (registers g) q → HasRegs y.shadow.registers g → HasState w y q
+      state g sees agrees has =
+          let stands : Standing w (shade_of y) = within-stands w k.walking.within in
+          record {
+            registers = λ i above below. shown-register y.shadow.registers (registers g) g has (has-registers g) i above ∙ agrees.registers i above below refl;
+            files = k.walking.files;
+            bytes = λ b inside. sees.bytes b inside refl;
+            tables = stands.tables;
+            has = stands.has;
+            ok = stands.ok;
+            sized = of-sized y k.walking.sized;
+          }
+
+      by_asks : (p : ℕ) (i : Instr) (g : Regs) → OnInstruction w q (does p i g) → does p i g ≡ k.doing → i ≡ Ecall → Asks (Hcall unhinted) y.shadow.registers g → Walks w x r q d t (Some (walked.Call unhinted (words - 1)))
+      by_asks p i g on same call (asks.key rd f e10 e11 e12 e17) = absurd cc
+      by_asks p i g on same call (asks.call f has) =
+          let hinted : false ≡ unhinted = cc in
+          let quiet : is_storing k.doing ≡ false = ap is_storing (sym same) ∙ ap (λ (i : Instr). is_storing (does p i g)) call in
+          subst (λ (b : Bool). Walks w x r q d t (Some (walked.Call b (words - 1)))) hinted
+          (calls (words - 1) (omega (arith, few)) (subst (λ (r : Run). ShowsShadow w r d t) made-before shows)
+          (subst (λ (r : Run). fetch_shadow w r.shadow.pc ≡ Some (Hcall false)) made-before (at.word ∙ ap (λ (b : Bool). Some (Hcall b)) (sym hinted)))
+          (on.1 ∙ ap (λ (i : Instr). Some i) call) (subst (λ (r : Run). HasState w r q) made-before (state g (k.walking.sees quiet) on.3 has)))
+
+      by_doing : (f : Doing) → OnInstruction w q f → f ≡ k.doing → AsksIn (Hcall unhinted) y.shadow.registers f → Walks w x r q d t (Some (walked.Call unhinted (words - 1)))
+      by_doing (does p i g) on same f = by_asks p i g on same f.0 f.1
+      by_doing (ends g) on same f = absurd f
+      by_doing _ on same f = absurd on
+
+  -- no other event comes
+  pub strayed : (f : Event) → e ≡ f → IsStray f → ⊥
+  strayed (event.Trap trap) is stray =
+      let never : WordCompletes w y → ⊥ = subst (λ (e : Event). Tells e w y) is told in
+      never (completing k.walking.doing k.walking.plain (within-completes w a y k.walking.sized (known l no_marks q) (λ p rd rs1 op imm g f. walking-sees k.walking (ap is_storing f)) k.walking.within))
+  strayed event.Done is stray = stray
+  strayed (event.Key rd) is stray = stray
+  strayed (event.Park cause) is stray = stray
+  strayed (event.Call unhinted) is stray = stray
+  strayed f is stray = subst (λ (e : Event). MovesBy e w y c s d t) is moved

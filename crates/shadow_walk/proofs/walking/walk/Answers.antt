@@ -1,0 +1,78 @@
+use Rattle.std.proofs.Common.{◌≡◌, true, false, refl, ◌∙◌, ap, ap₂, sym, subst, arith}
+use Rattle.hart_mem.specs.Held.{space_of}
+use Rattle.hart_step.specs.Core.{HeldCore, Core, core_of}
+use Rattle.run_model.specs.ShadowMoves.{is_arrival}
+use Rattle.shadow_walk.proofs.Strides.{Turned, sets_out, done, keyed, parked, called, strayed, is-stray, comes_there, goes_between}
+use Rattle.shadow_walk.proofs.walking.walk.Goals as goal
+use Rattle.shadow_walk.proofs.walking.walk.Goals.{in-Done, in-Key}
+
+pub loop-words-init : goal.loop-words-init
+loop-words-init c = record { view = c.requires.shadow; way = sets_out c.args.layout.now c.args.key (core_of c.args.hart.now) (space_of c.args.mem.now) }
+
+pub advance-requires : goal.advance-requires
+advance-requires c = record { shadow = c.loop-words.invariant.view }
+
+pub returns-in-Park-clause-block : goal.returns-in-Park-clause-block
+returns-in-Park-clause-block c w x r q a same shows at key =
+    parked w a (record { outcome = c.advance.ensures.outcome; moves = c.advance.ensures.moves }) (c.loop-words.invariant.way w x r q a same shows at key) c.in-Park.cause c.in-Park.is
+
+pub returns-in-Call-clause-block : goal.returns-in-Call-clause-block
+returns-in-Call-clause-block c w x r q a same shows at key =
+    called w a (record { outcome = c.advance.ensures.outcome; moves = c.advance.ensures.moves }) (c.loop-words.invariant.way w x r q a same shows at key) c.in-Call.unhinted c.in-Call.is
+
+pub returns-in_default : goal.returns-in_default
+returns-in_default c =
+    record {
+      view = c.advance.ensures.view;
+      block = λ w x r q a same shows at key.
+          absurd
+          (strayed w a (record { outcome = c.advance.ensures.outcome; moves = c.advance.ensures.moves }) (c.loop-words.invariant.way w x r q a same shows at key) c.advance.result refl
+          (is-stray c.advance.result c.in_default.not-Done c.in_default.not-Key c.in_default.not-Park c.in_default.not-Call));
+    }
+
+pub returns-then-is_arrival-clause-block : goal.returns-then-is_arrival-clause-block
+returns-then-is_arrival-clause-block c w x r q a same shows at key =
+    let at_pc : is_arrival w.image.layout (core_of c.match-advance.hart).pc ≡ true =
+    ap₂ is_arrival (sym same) (sym c.pc.ensures) ∙ sym c.is_arrival.ensures ∙ c.if-is_arrival.true in
+    let k = c.loop-words.invariant.way w x r q a same shows at key in
+    elim c.match-advance.branch [
+      | in-Done f ↦
+        let turn : Turned w x r q c.loop-words.words (core_of c.match-advance.hart) (space_of c.advance.new.mem) =
+        subst (λ (h : HeldCore). Turned w x r q c.loop-words.words (core_of h) (space_of c.advance.new.mem)) (sym f.hart-is) (done w a (record { outcome = c.advance.ensures.outcome; moves = c.advance.ensures.moves }) k f.in-Done.is) in
+        comes_there turn at_pc
+      | in-Key f ↦
+        let turn : Turned w x r q c.loop-words.words (core_of c.match-advance.hart) (space_of c.advance.new.mem) =
+        subst (λ (h : HeldCore). Turned w x r q c.loop-words.words (core_of h) (space_of c.advance.new.mem)) (sym f.hart-is)
+        (subst (λ (d : Core). Turned w x r q c.loop-words.words d (space_of c.advance.new.mem)) (sym f.answer.ensures)
+        (keyed w a (record { outcome = c.advance.ensures.outcome; moves = c.advance.ensures.moves }) k f.in-Key.rd c.args.key f.in-Key.is c.args.layout.now same key)) in
+        comes_there turn at_pc
+    ]
+
+pub loop-words-preserved : goal.loop-words-preserved
+loop-words-preserved c =
+    record {
+      view =
+          elim c.match-advance.branch [
+            | in-Done f ↦ ap (λ (h : HeldCore). (core_of h).view) f.hart-is ∙ c.advance.ensures.view
+            | in-Key f ↦ ap (λ (h : HeldCore). (core_of h).view) f.hart-is ∙ ap (λ (d : Core). d.view) f.answer.ensures ∙ c.advance.ensures.view
+          ];
+      way = λ w x r q a same shows at key.
+          let at_pc : is_arrival w.image.layout (core_of c.match-advance.hart).pc ≡ false =
+          ap₂ is_arrival (sym same) (sym c.pc.ensures) ∙ sym c.is_arrival.ensures ∙ c.if-is_arrival.false in
+          let k = c.loop-words.invariant.way w x r q a same shows at key in
+          elim c.match-advance.branch [
+            | in-Done f ↦
+              let turn : Turned w x r q c.loop-words.words (core_of c.match-advance.hart) (space_of c.advance.new.mem) =
+              subst (λ (h : HeldCore). Turned w x r q c.loop-words.words (core_of h) (space_of c.advance.new.mem)) (sym f.hart-is) (done w a (record { outcome = c.advance.ensures.outcome; moves = c.advance.ensures.moves }) k f.in-Done.is) in
+              goes_between turn at_pc
+            | in-Key f ↦
+              let turn : Turned w x r q c.loop-words.words (core_of c.match-advance.hart) (space_of c.advance.new.mem) =
+              subst (λ (h : HeldCore). Turned w x r q c.loop-words.words (core_of h) (space_of c.advance.new.mem)) (sym f.hart-is)
+              (subst (λ (d : Core). Turned w x r q c.loop-words.words d (space_of c.advance.new.mem)) (sym f.answer.ensures)
+              (keyed w a (record { outcome = c.advance.ensures.outcome; moves = c.advance.ensures.moves }) k f.in-Key.rd c.args.key f.in-Key.is c.args.layout.now same key)) in
+              goes_between turn at_pc
+          ];
+    }
+
+pub returns-clause-block : goal.returns-clause-block
+returns-clause-block c w x r q a same shows at key = let k = c.loop-words.invariant.way w x r q a same shows at key in absurd (omega (arith, k.few, c.loop-words-test.false))

@@ -1,0 +1,100 @@
+-- What a walk of the shadow through one block comes to: the block's run is one instruction of the plain program (this project's own).
+use Rattle.std.specs.Prelude.{ℕ, zero, suc, ℤ, ◌+◌, ◌^◌, ◌≡◌, ◌<◌, ◌≤◌, false, length, Option, Some, None, IsTrue, ⊤, List, [], ◌∷◌}
+use Rattle.spec_base.specs.declared.layout.Layout.{Layout}
+use Rattle.spec_base.specs.declared.note.ShadowState.TheVariants.{Parked}
+use Rattle.spec_base.specs.declared.park.Park.{Park}
+use Rattle.spec_base.specs.declared.park.Park.TheVariants as park
+use Rattle.rv_decode.specs.declared.instr.Instr.TheVariants.{Store, Ecall, Hcall}
+use Rattle.rv_decode.specs.declared.instr.StoreOp.{StoreOp}
+use Rattle.rv_model.specs.Rights.{is_data, in_text}
+use Rattle.rv_model.specs.Space.{Space}
+use Rattle.program_model.specs.Descriptors.{Descriptor, Free, Null, Out, Err, File, Descriptors}
+use Rattle.program_model.specs.Calls.{key_of}
+use Rattle.program_model.specs.PlainRun.{State, all_taken, next_state, plan_of}
+use Rattle.code_model.specs.Places.{block_at}
+use Rattle.code_model.specs.Regions.{shadowed}
+use Rattle.run_model.specs.Run.{World, Run, Answer}
+use Rattle.run_model.specs.ShadowMoves.{fetch_shadow, shadow_step}
+use Rattle.run_model.specs.OwnLaws.{Accepted}
+use Rattle.run_model.specs.Restarts.{instr_at}
+use Rattle.side_model.specs.Places.{HasBlock}
+use Rattle.side_model.specs.Tables.{Tabs, HasTabs, TableOk}
+use Rattle.hart_step.specs.Core.{Core}
+use Rattle.shadow_walk.specs.Shows.{ShowsIn, ShowsShadow}
+use Rattle.shadow_walk.specs.declared.walking.Walked.{Walked}
+use Rattle.shadow_walk.specs.declared.walking.Walked.TheVariants as walked
+
+-- ---- numbers
+
+-- the size and the offset of a file are below 2^56
+abbrev pub AreSmall : Descriptor → Type 0
+AreSmall (File name size offset) = (size < 2 ^ 56) × (offset < 2 ^ 56)
+AreSmall Free = ⊤
+AreSmall Null = ⊤
+AreSmall Out = ⊤
+AreSmall Err = ⊤
+
+-- those of each of these descriptors
+abbrev pub AreAllSmall : List Descriptor → Type 0
+AreAllSmall [] = ⊤
+AreAllSmall (d ∷ ds) = AreSmall d × AreAllSmall ds
+
+-- there are 32 descriptors, with such sizes and offsets
+pub record AreLawful (f : Descriptors) : Type 0 where
+  pub count : length f.slots ≡ 32
+  pub each : AreAllSmall f.slots
+
+-- the shadow's registers are numbers of 64 bits, all that it loads from has bytes, and the descriptors are lawful
+pub record IsSized (r : Run) : Type 0 where
+  pub registers : (i : ℕ) → r.shadow.registers i < 2 ^ 64
+  pub own_memory : (a : ℕ) → r.own.memory a < 256
+  pub shared : (a : ℕ) → r.shared a < 256
+  pub page : (a : ℕ) → r.shadow_page a < 256
+  pub files : AreLawful r.shadow.files
+  pub own_files : AreLawful r.own.files
+
+-- ---- states
+
+-- the shadow has the registers, the descriptors and, in its copies or else in the program, the bytes of a plain state, and its table and list are consistent
+pub record HasState (w : World) (r : Run) (q : State) : Type 0 where
+  pub registers : (i : ℕ) → 0 < i → i < 32 → r.shadow.registers i ≡ q.registers i
+  pub files : r.shadow.files ≡ q.files
+  pub bytes : (a : ℕ) → IsTrue (is_data w.image.layout a) → shadowed r.shared r.own.memory a ≡ q.memory a
+  pub tables : Tabs
+  pub has : HasTabs w.image.layout r.shared tables
+  pub ok : TableOk w.image.layout tables
+  pub sized : IsSized r
+
+-- it stands at word 1 of the block of a plain state, which has not exited
+pub record StandsAt (w : World) (r : Run) (q : State) : Type 0 where
+  pub state : HasState w r q
+  pub block : HasBlock w.image.layout q.pc
+  pub place : r.shadow.pc ≡ block_at w.image.layout q.pc + 4
+  pub goes_on : q.exited ≡ None
+
+-- ---- a walk
+
+-- why a walk parks: the program traps there, or goes on outside the text; a store finds all slots in use; a keyed read finds the log full
+pub data ParksBy (w : World) (q : State) : Park → Type 0 where
+  traps : next_state w.image w.files all_taken q ≡ None → ParksBy w q park.Fault
+  leaves : (next : State) → next_state w.image w.files all_taken q ≡ Some next → in_text w.image.layout next.pc ≡ false → ParksBy w q park.Fault
+  full_up : (op : StoreOp) (rs1 rs2 : ℕ) (imm : ℤ) → instr_at w.image q ≡ Some (Store op rs1 rs2 imm) → ParksBy w q park.Regions
+  log_full : instr_at w.image q ≡ Some Ecall → ParksBy w q park.LogFull
+
+-- the run after so many words of its shadow, where the outside answers so at each
+unfoldable pub words_on : World → (ℕ → Answer) → Run → ℕ → Run
+words_on w x r zero = r
+words_on w x r (suc n) = shadow_step w (x n) (words_on w x r n)
+
+-- from word 1 of the block of the state q: after so many words, 227 at most, the shadow stands at the block of the next state, is parked, or is at the HCALL of the state's call, with the state as it was. Hart and memory show the run then
+pub data Walks (w : World) (x : ℕ → Answer) (r : Run) (q : State) (core : Core) (space : Space) : Option Walked → Type 0 where
+  arrives : (n : ℕ) → n ≤ 227 → ShowsShadow w (words_on w x r n) core space → (next : State) → next_state w.image w.files all_taken q ≡ Some next → StandsAt w (words_on w x r n) next
+      → Walks w x r q core space (Some (walked.Arrived n))
+  parks : (n : ℕ) → n ≤ 227 → (cause : Park) → ShowsIn (Parked cause) w (words_on w x r n) core space → ParksBy w q cause → Walks w x r q core space (Some (walked.Parked cause n))
+  calls : (n : ℕ) → n ≤ 227 → ShowsShadow w (words_on w x r n) core space → fetch_shadow w (words_on w x r n).shadow.pc ≡ Some (Hcall false) → instr_at w.image q ≡ Some Ecall → HasState w (words_on w x r n) q
+      → Walks w x r q core space (Some (walked.Call false n))
+
+-- a walk, with this key for an HKEY, in each run that hart and memory show at word 1 of a block, whatever the outside answers. The second hart and memory are those after it
+abbrev pub BlockIsOneInstruction : Layout → ℕ → Option Walked → Core → Space → Core → Space → Type 0
+BlockIsOneInstruction l key result c s d t =
+    (w : World) (x : ℕ → Answer) (r : Run) (q : State) → Accepted w → l ≡ w.image.layout → ShowsShadow w r c s → StandsAt w r q → key ≡ key_of (plan_of l q) → Walks w x r q d t result
