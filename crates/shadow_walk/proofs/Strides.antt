@@ -27,13 +27,13 @@ use Rattle.shadow_laws.proofs.Sound.{Standing}
 use Rattle.mark_laws.specs.Agreement.{Agrees, SeesAlike, planned}
 use Rattle.mark_laws.proofs.OneCall.{plan_agrees}
 use Rattle.hint_laws.proofs.Within.{Doing, does, ends}
-use Rattle.hint_laws.proofs.WithinFacts.{within-stands}
+use Rattle.hint_laws.proofs.Within.{within-stands, within-running}
 use Rattle.hint_laws.proofs.WithinSteps.{IsQuiet}
 use Rattle.hint_laws.proofs.Followed.{known, registers, view_in, DoesOf, instruction, text_end, restart, is_storing, is_restart}
 use Rattle.hint_laws.proofs.Views.{has-registers}
-use Rattle.hint_laws.proofs.WordFacts.{parked_running}
+use Rattle.shadow_laws.proofs.Sound.{parked_running}
 use Rattle.hint_laws.proofs.ParkPlaces.{is_named, park-named}
-use Rattle.hint_laws.proofs.Spots.{within-running}
+
 use Rattle.mark_laws.proofs.OneInstruction.{true_false}
 use Rattle.hart_mem.specs.Held.{Held, lacks_frame}
 use Rattle.hart_step.specs.Core.{Core}
@@ -248,7 +248,7 @@ module _ (w : World) (a : Accepted w) {x : ℕ → Answer} {r : Run} {q : State}
 
       state : (g : Regs) → SeesAlike l no_marks (view_in y) q → Agrees no_marks (registers g) q → HasRegs y.shadow.registers g → HasState w y q
       state g sees agrees has =
-          let stands : Standing w (shade_of y) = within-stands w k.walking.within in
+          let stands : Standing w (shade_of y) = within-stands k.walking.within in
           record {
             registers = λ i above below. shown-register y.shadow.registers (registers g) g has (has-registers g) i above ∙ agrees.registers i above below refl;
             files = k.walking.files;

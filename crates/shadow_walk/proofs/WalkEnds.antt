@@ -189,7 +189,7 @@ module _ (w : World) (a : Accepted w) (q : State) (going : q.exited ≡ None) wh
     where
       by_word : (o : Option Instr) → instr_at w.image q ≡ o → ParksBy w q park.Fault
       by_word None e = walk.traps (ap (λ exited. next_unless exited w.image w.files all_taken q) going ∙ ap (λ word. completed (at_word w.image w.files all_taken q word)) e)
-      by_word (Some i) e = let s : spot.StandsAt w q i = spot.instr-stands w a q i e in absurd (omega (arith, s.below, end))
+      by_word (Some i) e = let s : spot.InstructionStands w q i = spot.instr-stands w a q i e in absurd (omega (arith, s.below, end))
 
   -- each park; an exit, or a look that fails, is told by another cause
   pub parks-by : (cause : Park) {d : Doing} → OnInstruction w q d → word.Stops l cause d → ParksBy w q cause ⊎ ((cause ≡ park.Exit) ⊎ (cause ≡ park.Store))

@@ -291,10 +291,10 @@ pub data Asks (gate : Instr) (rs : Registers) (q : Regs) : Type 0 where
 
 -- such a word is one of a call
 abbrev pub AsksIn : Instr → Registers → Doing → Type 0
-AsksIn gate rs (does p i q) = (i ≡ Ecall) × Asks gate rs q
-AsksIn gate rs (ends q) = ⊥
-AsksIn gate rs (restarts site q) = ⊤
-AsksIn gate rs (goes_to to q) = ⊤
+AsksIn word rs (does p i q) = (i ≡ Ecall) × Asks word rs q
+AsksIn word rs (ends q) = ⊥
+AsksIn word rs (restarts site q) = ⊤
+AsksIn word rs (goes_to to q) = ⊤
 
 module _ (w : World) (r : Run) (gate : Instr) (word : fetch_shadow w r.shadow.pc ≡ Some gate) (is_gate : is_other (Some gate) ≡ false) where
   -- the word at a row is the row's

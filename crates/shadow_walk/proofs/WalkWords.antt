@@ -44,11 +44,11 @@ use Rattle.mark_laws.specs.Agreement.{Agrees, IsAt, SeesAlike, may_access, FlowL
 use Rattle.mark_laws.proofs.OneInstruction.{unmarked-register, flow_agrees, load_agrees, store_agrees}
 use Rattle.hint_laws.proofs.Within.{Doing, does, ends, restarts, goes_to, known_from, Within}
 use Rattle.hint_laws.proofs.WithinSteps.{IsQuiet, Comes, flows, loads, stores, returns, Turns, asks, asks_again, Leads, goes, turns, reaches, halts, within-leads}
-use Rattle.hint_laws.proofs.WithinFacts.{within-stands}
+use Rattle.hint_laws.proofs.Within.{within-stands, within-running}
 use Rattle.hint_laws.proofs.Followed.{known, registers, regs_of, program_in, view_in, is_storing}
 use Rattle.hint_laws.proofs.Views.{known-number, stored-seen, has-registers, no_rights, IsFlow, flow-is}
 use Rattle.hint_laws.proofs.WordFacts.{WordLeaves, HintsStay, word-leaves, word-hints_stay}
-use Rattle.hint_laws.proofs.Spots.{inner-arrival, within-whole, within-running}
+use Rattle.hint_laws.proofs.Spots.{inner-arrival, within-whole}
 use Rattle.hint_laws.proofs.Going.{program-left, alike-left}
 use Rattle.shadow_walk.specs.Walks.{HasState, StandsAt, ParksBy}
 use Rattle.shadow_walk.proofs.OnTheWay.{of-sized, marks-none, store-none, use-none, Walking, walking-sees}
