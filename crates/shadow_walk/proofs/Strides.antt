@@ -1,23 +1,21 @@
 -- Each turn of the walk: a hart and a memory that show a run on its way through a block, and what the event of a step makes of them.
-use Rattle.std.proofs.Common.{◌≡◌, ℕ, suc, ◌+◌, ◌-◌, ◌<◌, ◌≤◌, ◌⊎◌, inl, inr, Bool, true, false, Option, Some, None, refl, ◌∙◌, ap, ap₂, sym, subst, arith}
+use Rattle.std.proofs.Common.{◌≡◌, ℕ, suc, ◌+◌, ◌-◌, ◌<◌, ◌≤◌, ◌⊎◌, inl, inr, Bool, true, false, Some, refl, ◌∙◌, ap, sym, subst, arith}
 use Rattle.std.specs.Prelude.{⊤, ◌≢◌}
 use Rattle.spec_base.specs.declared.layout.Layout.{Layout}
-use Rattle.spec_base.specs.declared.note.ShadowState.TheVariants.{Running, Parked}
+use Rattle.spec_base.specs.declared.note.ShadowState.TheVariants.{Parked}
 use Rattle.spec_base.specs.declared.park.Park.{Park}
 use Rattle.spec_base.specs.declared.park.Park.TheVariants as park
 use Rattle.rv_decode.specs.declared.instr.Instr.{Instr}
 use Rattle.rv_decode.specs.declared.instr.Instr.TheVariants.{Ecall, Hkey, Hcall, Hpark}
-use Rattle.rv_model.specs.Memory.{Memory}
-use Rattle.rv_model.specs.Registers.{Registers, reg, with_reg}
+use Rattle.rv_model.specs.Registers.{reg, with_reg}
 use Rattle.rv_model.specs.Rights.{is_data}
 use Rattle.rv_model.specs.Effect.{after}
 use Rattle.rv_model.specs.Space.{Space}
-use Rattle.program_model.specs.Calls.{CallPlan, key_of, call_plan}
-use Rattle.program_model.specs.PlainRun.{State, all_taken, next_state, plan_of}
+use Rattle.program_model.specs.Calls.{key_of, call_plan}
+use Rattle.program_model.specs.PlainRun.{State, plan_of}
 use Rattle.run_model.specs.Run.{World, Run, Answer}
 use Rattle.run_model.specs.ShadowMoves.{is_arrival, is_call_word, shadow_step, shadow_plan, fetch_shadow}
 use Rattle.run_model.specs.OwnLaws.{Accepted}
-use Rattle.run_model.specs.Restarts.{instr_at}
 use Rattle.run_model.specs.Marks.{no_marks}
 use Rattle.side_model.specs.Hart.{Regs, get}
 use Rattle.side_model.specs.Sees.{shade_of, HasRegs}
@@ -33,7 +31,6 @@ use Rattle.hint_laws.proofs.Followed.{known, registers, view_in, DoesOf, instruc
 use Rattle.hint_laws.proofs.Views.{has-registers}
 use Rattle.shadow_laws.proofs.Sound.{parked_running}
 use Rattle.hint_laws.proofs.ParkPlaces.{is_named, park-named}
-
 use Rattle.mark_laws.proofs.OneInstruction.{true_false}
 use Rattle.hart_mem.specs.Held.{Held, lacks_frame}
 use Rattle.hart_step.specs.Core.{Core}

@@ -1,6 +1,6 @@
 -- What the row of a shadow on an instruction says of its word: some words are left, it doesn't trap, and it asks for a key or makes a call in a call alone, with the program's registers.
 use Rattle.std.specs.Prelude.{⊤}
-use Rattle.std.proofs.Common.{◌≡◌, ℕ, ◌+◌, ◌*◌, ◌-◌, ◌<◌, inl, inr, Bool, true, false, ◌==◌, lit<, ℤ, List, ◌++◌, slice_get, Option, Some, None, refl, ◌∙◌, ap, sym, subst, arith}
+use Rattle.std.proofs.Common.{◌≡◌, ℕ, ◌+◌, ◌<◌, inl, inr, Bool, true, false, ◌==◌, lit<, ℤ, List, ◌++◌, slice_get, Option, Some, None, refl, ◌∙◌, ap, sym, subst, arith}
 use Rattle.spec_base.specs.Word.{plus_int}
 use Rattle.spec_base.specs.declared.layout.Layout.{Layout}
 use Rattle.spec_base.specs.declared.park.Park.{Park}
@@ -291,10 +291,10 @@ pub data Asks (gate : Instr) (rs : Registers) (q : Regs) : Type 0 where
 
 -- such a word is one of a call
 abbrev pub AsksIn : Instr → Registers → Doing → Type 0
-AsksIn word rs (does p i q) = (i ≡ Ecall) × Asks word rs q
-AsksIn word rs (ends q) = ⊥
-AsksIn word rs (restarts site q) = ⊤
-AsksIn word rs (goes_to to q) = ⊤
+AsksIn met rs (does p i q) = (i ≡ Ecall) × Asks met rs q
+AsksIn met rs (ends q) = ⊥
+AsksIn met rs (restarts site q) = ⊤
+AsksIn met rs (goes_to to q) = ⊤
 
 module _ (w : World) (r : Run) (gate : Instr) (word : fetch_shadow w r.shadow.pc ≡ Some gate) (is_gate : is_other (Some gate) ≡ false) where
   -- the word at a row is the row's

@@ -29,6 +29,9 @@ const MOST_WORDS: u32 = 72 + 5 * 65_536;
 
 /// Steps a hart in the shadow's view up to the next arrival, park or call. An HKEY gets `key`. None
 /// where a word traps or too many are executed, which no code of a rewritten program does.
+///
+/// From word 1 of an instruction's block on, where `key` is that of the call in the registers, the
+/// walk is one instruction of the program, by 227 words at most.
 pub fn walk(hart: &mut Hart, mem: &mut Mem, layout: &Layout, key: u64) -> Option<Walked>
     requires shadow { (core_of hart.old).view ≡ Shadow }
     requires lawful { IsTrue (is_lawful layout.now) }

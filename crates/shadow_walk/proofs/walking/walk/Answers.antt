@@ -37,15 +37,15 @@ returns-then-is_arrival-clause-block c w x r q a same shows at key =
     let k = c.loop-words.invariant.way w x r q a same shows at key in
     elim c.match-advance.branch [
       | in-Done f ↦
-        let turn : Turned w x r q c.loop-words.words (core_of c.match-advance.hart) (space_of c.advance.new.mem) =
-        subst (λ (h : HeldCore). Turned w x r q c.loop-words.words (core_of h) (space_of c.advance.new.mem)) (sym f.hart-is) (done w a (record { outcome = c.advance.ensures.outcome; moves = c.advance.ensures.moves }) k f.in-Done.is) in
-        comes_there turn at_pc
+          let turn : Turned w x r q c.loop-words.words (core_of c.match-advance.hart) (space_of c.advance.new.mem) =
+          subst (λ (h : HeldCore). Turned w x r q c.loop-words.words (core_of h) (space_of c.advance.new.mem)) (sym f.hart-is) (done w a (record { outcome = c.advance.ensures.outcome; moves = c.advance.ensures.moves }) k f.in-Done.is) in
+          comes_there turn at_pc
       | in-Key f ↦
-        let turn : Turned w x r q c.loop-words.words (core_of c.match-advance.hart) (space_of c.advance.new.mem) =
-        subst (λ (h : HeldCore). Turned w x r q c.loop-words.words (core_of h) (space_of c.advance.new.mem)) (sym f.hart-is)
-        (subst (λ (d : Core). Turned w x r q c.loop-words.words d (space_of c.advance.new.mem)) (sym f.answer.ensures)
-        (keyed w a (record { outcome = c.advance.ensures.outcome; moves = c.advance.ensures.moves }) k f.in-Key.rd c.args.key f.in-Key.is c.args.layout.now same key)) in
-        comes_there turn at_pc
+          let turn : Turned w x r q c.loop-words.words (core_of c.match-advance.hart) (space_of c.advance.new.mem) =
+          subst (λ (h : HeldCore). Turned w x r q c.loop-words.words (core_of h) (space_of c.advance.new.mem)) (sym f.hart-is)
+          (subst (λ (d : Core). Turned w x r q c.loop-words.words d (space_of c.advance.new.mem)) (sym f.answer.ensures)
+          (keyed w a (record { outcome = c.advance.ensures.outcome; moves = c.advance.ensures.moves }) k f.in-Key.rd c.args.key f.in-Key.is c.args.layout.now same key)) in
+          comes_there turn at_pc
     ]
 
 pub loop-words-preserved : goal.loop-words-preserved
@@ -62,15 +62,15 @@ loop-words-preserved c =
           let k = c.loop-words.invariant.way w x r q a same shows at key in
           elim c.match-advance.branch [
             | in-Done f ↦
-              let turn : Turned w x r q c.loop-words.words (core_of c.match-advance.hart) (space_of c.advance.new.mem) =
-              subst (λ (h : HeldCore). Turned w x r q c.loop-words.words (core_of h) (space_of c.advance.new.mem)) (sym f.hart-is) (done w a (record { outcome = c.advance.ensures.outcome; moves = c.advance.ensures.moves }) k f.in-Done.is) in
-              goes_between turn at_pc
+                let turn : Turned w x r q c.loop-words.words (core_of c.match-advance.hart) (space_of c.advance.new.mem) =
+                subst (λ (h : HeldCore). Turned w x r q c.loop-words.words (core_of h) (space_of c.advance.new.mem)) (sym f.hart-is) (done w a (record { outcome = c.advance.ensures.outcome; moves = c.advance.ensures.moves }) k f.in-Done.is) in
+                goes_between turn at_pc
             | in-Key f ↦
-              let turn : Turned w x r q c.loop-words.words (core_of c.match-advance.hart) (space_of c.advance.new.mem) =
-              subst (λ (h : HeldCore). Turned w x r q c.loop-words.words (core_of h) (space_of c.advance.new.mem)) (sym f.hart-is)
-              (subst (λ (d : Core). Turned w x r q c.loop-words.words d (space_of c.advance.new.mem)) (sym f.answer.ensures)
-              (keyed w a (record { outcome = c.advance.ensures.outcome; moves = c.advance.ensures.moves }) k f.in-Key.rd c.args.key f.in-Key.is c.args.layout.now same key)) in
-              goes_between turn at_pc
+                let turn : Turned w x r q c.loop-words.words (core_of c.match-advance.hart) (space_of c.advance.new.mem) =
+                subst (λ (h : HeldCore). Turned w x r q c.loop-words.words (core_of h) (space_of c.advance.new.mem)) (sym f.hart-is)
+                (subst (λ (d : Core). Turned w x r q c.loop-words.words d (space_of c.advance.new.mem)) (sym f.answer.ensures)
+                (keyed w a (record { outcome = c.advance.ensures.outcome; moves = c.advance.ensures.moves }) k f.in-Key.rd c.args.key f.in-Key.is c.args.layout.now same key)) in
+                goes_between turn at_pc
           ];
     }
 
