@@ -74,7 +74,7 @@ pub record StandsAt (w : World) (r : Run) (q : State) : Type 0 where
 
 -- ---- a walk
 
--- why a walk parks: the program traps there, or goes on outside the text; a store finds all slots in use; a keyed read finds the log full
+-- why a walk parks: by Fault where the program traps, or goes on outside the text; by Regions at a store alone, and by LogFull at a call alone. It parks by no other cause
 pub data ParksBy (w : World) (q : State) : Park → Type 0 where
   traps : next_state w.image w.files all_taken q ≡ None → ParksBy w q park.Fault
   leaves : (next : State) → next_state w.image w.files all_taken q ≡ Some next → in_text w.image.layout next.pc ≡ false → ParksBy w q park.Fault
