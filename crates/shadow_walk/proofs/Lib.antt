@@ -6,3 +6,4 @@ pub mod OnTheWay
 pub mod WalkEnds
 pub mod WalkWords
 pub mod Strides
+pub mod Onward

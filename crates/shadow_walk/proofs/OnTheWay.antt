@@ -1,13 +1,10 @@
 -- A shadow that walks through the block of a plain state, in which no value is marked: what is so of it, that it is so at word 1, and what it leads to.
-use Rattle.std.specs.Prelude.{⊤}
-use Rattle.std.proofs.Common.{◌≡◌, ℕ, zero, suc, ◌+◌, ◌<◌, ◌≤◌, ◌⊎◌, inl, inr, Bool, true, false, ◌||◌, ◌==◌, List, [], ◌∷◌, Option, Some, None, refl, ◌∙◌, ap, ap₂, sym, subst, arith}
+use Rattle.std.proofs.Common.{◌≡◌, ℕ, zero, suc, ◌+◌, ◌≤◌, Bool, true, false, ◌==◌, List, [], ◌∷◌, Some, None, refl, sym, subst}
 use Rattle.spec_base.specs.declared.layout.Layout.{Layout}
 use Rattle.spec_base.specs.declared.note.ShadowState.TheVariants.{Running}
 use Rattle.rv_decode.specs.declared.instr.Instr.{Instr}
-use Rattle.rv_decode.specs.declared.instr.Instr.TheVariants.{Lui, Auipc, Jal, Jalr, Load, Store, Ecall, Op, OpW, OpImm, OpImmW}
-use Rattle.rv_decode.specs.declared.instr.LoadOp.{LoadOp}
-use Rattle.rv_model.specs.Memory.{Memory, any_from, is_within}
-use Rattle.rv_model.specs.Registers.{Registers}
+use Rattle.rv_decode.specs.declared.instr.Instr.TheVariants.{Lui, Auipc, Jal, Jalr, Load, Ecall, Op, OpW, OpImm, OpImmW}
+use Rattle.rv_model.specs.Memory.{any_from, is_within}
 use Rattle.rv_model.specs.Arithmetic.{load_width}
 use Rattle.program_model.specs.Descriptors.{Descriptor, Free, Null, Out, Err, File, Descriptors}
 use Rattle.program_model.specs.PlainRun.{State}
@@ -15,9 +12,8 @@ use Rattle.code_model.specs.Places.{block_at}
 use Rattle.run_model.specs.Run.{World, Run, rewritten_words}
 use Rattle.run_model.specs.OwnLaws.{Accepted}
 use Rattle.run_model.specs.Restarts.{Action, Loads, Stores, Reads, TakesName, Other, call_action, nothing}
-use Rattle.run_model.specs.Marks.{Marks, no_marks, with_mark, marks_after, marks_after_call, mark_bytes, is_use, name_is_marked}
+use Rattle.run_model.specs.Marks.{no_marks, with_mark, marks_after, marks_after_call, mark_bytes, is_use, name_is_marked}
 use Rattle.side_model.specs.Hart.{Regs}
-use Rattle.side_model.specs.Tables.{Tabs, TableOk}
 use Rattle.side_model.specs.Places.{InBlock}
 use Rattle.side_model.specs.Words.{Point}
 use Rattle.side_model.specs.Sees.{shade_of, Sees}
@@ -31,7 +27,7 @@ use Rattle.hint_laws.proofs.Within.{Doing, does, ends, AreSeen, Within, Begun, b
 use Rattle.hint_laws.proofs.Followed.{known, registers, regs_of, program_in, view_in, DoesOf, instruction, text_end, is_storing, is_restart}
 use Rattle.hint_laws.proofs.Views.{are-seen, agrees-as}
 use Rattle.hint_laws.proofs.Arriving.{instr-there}
-use Rattle.shadow_walk.specs.Walks.{AreSmall, AreAllSmall, AreLawful, IsSized, HasState, StandsAt}
+use Rattle.shadow_walk.specs.Walks.{AreSmall, AreAllSmall, AreLawful, IsSized, StandsAt}
 
 -- ---- numbers
 

@@ -4,7 +4,6 @@ use Rattle.std.proofs.Common.{◌≡◌, ℕ, Bool, true, false, Option, Some, N
 use Rattle.std.specs.Option.{option_map}
 use Rattle.spec_base.specs.declared.machine.View.TheVariants.{Shadow}
 use Rattle.spec_base.specs.declared.machine.Trap.{Trap}
-use Rattle.spec_base.specs.declared.note.ShadowState.TheVariants.{Running}
 use Rattle.own_laws.proofs.Reached.{false_true, none_some}
 use Rattle.rv_decode.specs.Instruction.{instr_of}
 use Rattle.rv_decode.specs.declared.instr.Instr.{Instr}
@@ -23,7 +22,7 @@ use Rattle.machine_laws.proofs.Gates.{effects_of_view}
 use Rattle.hint_laws.proofs.WithinSteps.{IsQuiet}
 use Rattle.hart_mem.specs.Held.{Held, lacks_frame}
 use Rattle.hart_step.specs.Core.{Core}
-use Rattle.hart_step.specs.Step.{Outcome, stepped, gate_outcome, effect_here}
+use Rattle.hart_step.specs.Step.{stepped, gate_outcome, effect_here}
 use Rattle.hart_step.specs.declared.event.Event.{Event}
 use Rattle.hart_step.specs.declared.event.Event.TheVariants as event
 use Rattle.shadow_walk.specs.Shows.{ShowsShadow}

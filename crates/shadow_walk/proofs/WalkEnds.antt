@@ -1,6 +1,5 @@
 -- Why a shadow parks on its way through the block of a plain state: the program traps there, or goes on outside its text; or slots or log are full.
-use Rattle.std.specs.Prelude.{⊤}
-use Rattle.std.proofs.Common.{◌≡◌, ℕ, ◌+◌, ◌%◌, ◌<◌, ◌⊎◌, inl, inr, Bool, true, false, ◌==◌, ℤ, Option, Some, None, refl, ◌∙◌, ap, ap₂, sym, subst, arith}
+use Rattle.std.proofs.Common.{◌≡◌, ℕ, ◌%◌, ◌<◌, ◌⊎◌, inl, inr, Bool, true, false, ◌==◌, ℤ, Option, Some, None, refl, ◌∙◌, ap, ap₂, sym, subst, arith}
 use Rattle.spec_base.specs.Files.{Files}
 use Rattle.spec_base.specs.Word.{plus_int}
 use Rattle.spec_base.specs.declared.layout.Layout.{Layout}
@@ -10,16 +9,16 @@ use Rattle.spec_base.specs.declared.park.Park.{Park}
 use Rattle.spec_base.specs.declared.park.Park.TheVariants as park
 use Rattle.rv_decode.specs.Encoding.{HasRegisters}
 use Rattle.rv_decode.specs.declared.instr.Instr.{Instr}
-use Rattle.rv_decode.specs.declared.instr.Instr.TheVariants.{Jal, Jalr, Branch, Load, Store, Lui, Auipc, OpImm, OpImmW, Op, OpW, Fence, Ecall}
+use Rattle.rv_decode.specs.declared.instr.Instr.TheVariants.{Jal, Jalr, Branch, Load, Store, Lui, Auipc, OpImm, OpImmW, Op, OpW, Fence}
 use Rattle.rv_decode.specs.declared.instr.LoadOp.{LoadOp}
 use Rattle.rv_decode.specs.declared.instr.StoreOp.{StoreOp}
 use Rattle.rv_model.specs.Memory.{Memory, all_from}
 use Rattle.rv_model.specs.Registers.{Registers, reg, with_reg}
-use Rattle.rv_model.specs.Rights.{Rights, data_rights, in_text}
+use Rattle.rv_model.specs.Rights.{Rights, data_rights}
 use Rattle.rv_model.specs.Arithmetic.{is_taken, load_width, store_width}
 use Rattle.rv_model.specs.Effect.{Effect, Next, Stored, Trapped, Called, Gated, effect, after, even, jump_if, jumps_to, branch_if, load_if, load_effect, store_if, store_effect}
 use Rattle.program_model.specs.PlainRun.{State, Image, all_taken, next_state, next_unless, at_word, after_effect, completed}
-use Rattle.run_model.specs.Run.{World, Run}
+use Rattle.run_model.specs.Run.{World}
 use Rattle.run_model.specs.OwnLaws.{Accepted}
 use Rattle.run_model.specs.Restarts.{instr_at}
 use Rattle.run_model.specs.Marks.{no_marks}
@@ -39,7 +38,6 @@ use Rattle.hint_laws.proofs.Views.{has-registers}
 use Rattle.hint_laws.proofs.Spots as spot
 use Rattle.shadow_walk.specs.Walks.{ParksBy}
 use Rattle.shadow_walk.specs.Walks as walk
-use Rattle.shadow_walk.proofs.OnTheWay.{Walking}
 
 -- ---- where an effect goes
 

@@ -1,5 +1,5 @@
 -- What each word of a shadow on its way through the block of a plain state leads to: a further word of the way, the block of the next state, or a park; or it is an HCALL.
-use Rattle.std.proofs.Common.{◌≡◌, ℕ, zero, suc, ◌+◌, ◌%◌, ◌<◌, ◌≤◌, ◌⊎◌, inl, inr, Bool, true, false, ◌==◌, ℤ, Option, Some, None, refl, ◌∙◌, ap, ap₂, sym, subst, arith}
+use Rattle.std.proofs.Common.{◌≡◌, ℕ, zero, suc, ◌+◌, ◌%◌, ◌<◌, ◌≤◌, ◌⊎◌, Bool, true, false, ◌==◌, ℤ, Some, None, refl, ◌∙◌, ap, ap₂, sym, subst, arith}
 use Rattle.std.proofs.lemmas.Bool.{and_parts}
 use Rattle.spec_base.specs.Word.{plus_int}
 use Rattle.spec_base.specs.declared.layout.Layout.{Layout}
@@ -7,9 +7,8 @@ use Rattle.spec_base.specs.declared.machine.View.TheVariants.{Plain}
 use Rattle.spec_base.specs.declared.note.ShadowState.TheVariants.{Running, Parked}
 use Rattle.spec_base.specs.declared.park.Park.{Park}
 use Rattle.spec_base.specs.declared.park.Park.TheVariants as park
-use Rattle.rv_decode.specs.Encoding.{HasRegisters}
 use Rattle.rv_decode.specs.declared.instr.Instr.{Instr}
-use Rattle.rv_decode.specs.declared.instr.Instr.TheVariants.{Load, Store, Ecall, Hcall}
+use Rattle.rv_decode.specs.declared.instr.Instr.TheVariants.{Load, Store, Hcall}
 use Rattle.rv_decode.specs.declared.instr.LoadOp.{LoadOp}
 use Rattle.rv_decode.specs.declared.instr.StoreOp.{StoreOp}
 use Rattle.rv_model.specs.Memory.{Memory, stored, all_from}
@@ -39,18 +38,17 @@ use Rattle.rows_flow.specs.Following.{GoesOn, FlowArrives}
 use Rattle.shadow_laws.proofs.ShadowNumbers.{Sized, stock_of, in-keeps}
 use Rattle.shadow_laws.proofs.ShadowRuns.{block-arrives}
 use Rattle.shadow_laws.proofs.TextBlocks.{text}
-use Rattle.shadow_laws.proofs.Sound.{Standing}
 use Rattle.mark_laws.specs.Agreement.{Agrees, IsAt, SeesAlike, may_access, FlowLeads, StoreLeads}
 use Rattle.mark_laws.proofs.OneInstruction.{unmarked-register, flow_agrees, load_agrees, store_agrees}
-use Rattle.hint_laws.proofs.Within.{Doing, does, ends, restarts, goes_to, known_from, Within}
+use Rattle.hint_laws.proofs.Within.{Doing, does, known_from, Within}
 use Rattle.hint_laws.proofs.WithinSteps.{IsQuiet, Comes, flows, loads, stores, returns, Turns, asks, asks_again, Leads, goes, turns, reaches, halts, within-leads}
-use Rattle.hint_laws.proofs.Within.{within-stands, within-running}
-use Rattle.hint_laws.proofs.Followed.{known, registers, regs_of, program_in, view_in, is_storing}
+use Rattle.hint_laws.proofs.Within.{within-running}
+use Rattle.hint_laws.proofs.Followed.{known, registers, program_in, view_in, is_storing}
 use Rattle.hint_laws.proofs.Views.{known-number, stored-seen, has-registers, no_rights, IsFlow, flow-is}
-use Rattle.hint_laws.proofs.WordFacts.{WordLeaves, HintsStay, word-leaves, word-hints_stay}
+use Rattle.hint_laws.proofs.WordFacts.{WordLeaves, word-leaves, word-hints_stay}
 use Rattle.hint_laws.proofs.Spots.{inner-arrival, within-whole}
 use Rattle.hint_laws.proofs.Going.{program-left, alike-left}
-use Rattle.shadow_walk.specs.Walks.{HasState, StandsAt, ParksBy}
+use Rattle.shadow_walk.specs.Walks.{StandsAt, ParksBy}
 use Rattle.shadow_walk.proofs.OnTheWay.{of-sized, marks-none, store-none, use-none, Walking, walking-sees}
 use Rattle.shadow_walk.proofs.WalkEnds.{OnInstruction, on-instruction, parks-by}
 

@@ -1,13 +1,14 @@
-use Rattle.std.proofs.Common.{◌≡◌, true, false, refl, ◌∙◌, ap, ap₂, sym, subst, arith}
+use Rattle.std.proofs.Common.{◌≡◌, ◌+◌, true, false, refl, ◌∙◌, ap, ap₂, sym, subst, arith}
 use Rattle.hart_mem.specs.Held.{space_of}
 use Rattle.hart_step.specs.Core.{HeldCore, Core, core_of}
 use Rattle.run_model.specs.ShadowMoves.{is_arrival}
 use Rattle.shadow_walk.proofs.Strides.{Turned, sets_out, done, keyed, parked, called, strayed, is-stray, comes_there, goes_between}
+use Rattle.shadow_walk.proofs.Onward.{Anew, begins_anew, passes_on, onward, keyless, strays, never-parks, never-comes, calls-anew, anew-few}
 use Rattle.shadow_walk.proofs.walking.walk.Goals as goal
 use Rattle.shadow_walk.proofs.walking.walk.Goals.{in-Done, in-Key}
 
 pub loop-words-init : goal.loop-words-init
-loop-words-init c = record { view = c.requires.shadow; way = sets_out c.args.layout.now c.args.key (core_of c.args.hart.now) (space_of c.args.mem.now) }
+loop-words-init c = record { view = c.requires.shadow; way = sets_out c.args.layout.now c.args.key (core_of c.args.hart.now) (space_of c.args.mem.now); anew = begins_anew c.args.layout.now (core_of c.args.hart.now) (space_of c.args.mem.now) }
 
 pub advance-requires : goal.advance-requires
 advance-requires c = record { shadow = c.loop-words.invariant.view }
@@ -20,6 +21,13 @@ pub returns-in-Call-clause-block : goal.returns-in-Call-clause-block
 returns-in-Call-clause-block c w x r q a same shows at key =
     called w a (record { outcome = c.advance.ensures.outcome; moves = c.advance.ensures.moves }) (c.loop-words.invariant.way w x r q a same shows at key) c.in-Call.unhinted c.in-Call.is
 
+pub returns-in-Park-clause-anew : goal.returns-in-Park-clause-anew
+returns-in-Park-clause-anew c w x r a same shows at = absurd (never-parks w a (record { outcome = c.advance.ensures.outcome; moves = c.advance.ensures.moves }) (c.loop-words.invariant.anew w x r a same shows at) c.in-Park.cause c.in-Park.is)
+
+pub returns-in-Call-clause-anew : goal.returns-in-Call-clause-anew
+returns-in-Call-clause-anew c w x r a same shows at =
+    calls-anew w a (record { outcome = c.advance.ensures.outcome; moves = c.advance.ensures.moves }) (c.loop-words.invariant.anew w x r a same shows at) c.in-Call.unhinted c.in-Call.is
+
 pub returns-in_default : goal.returns-in_default
 returns-in_default c =
     record {
@@ -27,6 +35,10 @@ returns-in_default c =
       block = λ w x r q a same shows at key.
           absurd
           (strayed w a (record { outcome = c.advance.ensures.outcome; moves = c.advance.ensures.moves }) (c.loop-words.invariant.way w x r q a same shows at key) c.advance.result refl
+          (is-stray c.advance.result c.in_default.not-Done c.in_default.not-Key c.in_default.not-Park c.in_default.not-Call));
+      anew = λ w x r a same shows at.
+          absurd
+          (strays w a (record { outcome = c.advance.ensures.outcome; moves = c.advance.ensures.moves }) (c.loop-words.invariant.anew w x r a same shows at) c.advance.result refl
           (is-stray c.advance.result c.in_default.not-Done c.in_default.not-Key c.in_default.not-Park c.in_default.not-Call));
     }
 
@@ -37,15 +49,28 @@ returns-then-is_arrival-clause-block c w x r q a same shows at key =
     let k = c.loop-words.invariant.way w x r q a same shows at key in
     elim c.match-advance.branch [
       | in-Done f ↦
-        let turn : Turned w x r q c.loop-words.words (core_of c.match-advance.hart) (space_of c.advance.new.mem) =
-        subst (λ (h : HeldCore). Turned w x r q c.loop-words.words (core_of h) (space_of c.advance.new.mem)) (sym f.hart-is) (done w a (record { outcome = c.advance.ensures.outcome; moves = c.advance.ensures.moves }) k f.in-Done.is) in
-        comes_there turn at_pc
+          let turn : Turned w x r q c.loop-words.words (core_of c.match-advance.hart) (space_of c.advance.new.mem) =
+          subst (λ (h : HeldCore). Turned w x r q c.loop-words.words (core_of h) (space_of c.advance.new.mem)) (sym f.hart-is) (done w a (record { outcome = c.advance.ensures.outcome; moves = c.advance.ensures.moves }) k f.in-Done.is) in
+          comes_there turn at_pc
       | in-Key f ↦
-        let turn : Turned w x r q c.loop-words.words (core_of c.match-advance.hart) (space_of c.advance.new.mem) =
-        subst (λ (h : HeldCore). Turned w x r q c.loop-words.words (core_of h) (space_of c.advance.new.mem)) (sym f.hart-is)
-        (subst (λ (d : Core). Turned w x r q c.loop-words.words d (space_of c.advance.new.mem)) (sym f.answer.ensures)
-        (keyed w a (record { outcome = c.advance.ensures.outcome; moves = c.advance.ensures.moves }) k f.in-Key.rd c.args.key f.in-Key.is c.args.layout.now same key)) in
-        comes_there turn at_pc
+          let turn : Turned w x r q c.loop-words.words (core_of c.match-advance.hart) (space_of c.advance.new.mem) =
+          subst (λ (h : HeldCore). Turned w x r q c.loop-words.words (core_of h) (space_of c.advance.new.mem)) (sym f.hart-is)
+          (subst (λ (d : Core). Turned w x r q c.loop-words.words d (space_of c.advance.new.mem)) (sym f.answer.ensures)
+          (keyed w a (record { outcome = c.advance.ensures.outcome; moves = c.advance.ensures.moves }) k f.in-Key.rd c.args.key f.in-Key.is c.args.layout.now same key)) in
+          comes_there turn at_pc
+    ]
+
+pub returns-then-is_arrival-clause-anew : goal.returns-then-is_arrival-clause-anew
+returns-then-is_arrival-clause-anew c w x r a same shows at =
+    let at_pc : is_arrival w.image.layout (core_of c.match-advance.hart).pc ≡ true =
+    ap₂ is_arrival (sym same) (sym c.pc.ensures) ∙ sym c.is_arrival.ensures ∙ c.if-is_arrival.true in
+    let k = c.loop-words.invariant.anew w x r a same shows at in
+    elim c.match-advance.branch [
+      | in-Done f ↦
+          absurd
+          (never-comes w a (record { outcome = c.advance.ensures.outcome; moves = c.advance.ensures.moves }) k (onward w a (record { outcome = c.advance.ensures.outcome; moves = c.advance.ensures.moves }) k f.in-Done.is)
+          (subst (λ (h : HeldCore). is_arrival w.image.layout (core_of h).pc ≡ true) f.hart-is at_pc))
+      | in-Key f ↦ absurd (keyless w a (record { outcome = c.advance.ensures.outcome; moves = c.advance.ensures.moves }) k f.in-Key.rd f.in-Key.is tt)
     ]
 
 pub loop-words-preserved : goal.loop-words-preserved
@@ -62,17 +87,31 @@ loop-words-preserved c =
           let k = c.loop-words.invariant.way w x r q a same shows at key in
           elim c.match-advance.branch [
             | in-Done f ↦
-              let turn : Turned w x r q c.loop-words.words (core_of c.match-advance.hart) (space_of c.advance.new.mem) =
-              subst (λ (h : HeldCore). Turned w x r q c.loop-words.words (core_of h) (space_of c.advance.new.mem)) (sym f.hart-is) (done w a (record { outcome = c.advance.ensures.outcome; moves = c.advance.ensures.moves }) k f.in-Done.is) in
-              goes_between turn at_pc
+                let turn : Turned w x r q c.loop-words.words (core_of c.match-advance.hart) (space_of c.advance.new.mem) =
+                subst (λ (h : HeldCore). Turned w x r q c.loop-words.words (core_of h) (space_of c.advance.new.mem)) (sym f.hart-is) (done w a (record { outcome = c.advance.ensures.outcome; moves = c.advance.ensures.moves }) k f.in-Done.is) in
+                goes_between turn at_pc
             | in-Key f ↦
-              let turn : Turned w x r q c.loop-words.words (core_of c.match-advance.hart) (space_of c.advance.new.mem) =
-              subst (λ (h : HeldCore). Turned w x r q c.loop-words.words (core_of h) (space_of c.advance.new.mem)) (sym f.hart-is)
-              (subst (λ (d : Core). Turned w x r q c.loop-words.words d (space_of c.advance.new.mem)) (sym f.answer.ensures)
-              (keyed w a (record { outcome = c.advance.ensures.outcome; moves = c.advance.ensures.moves }) k f.in-Key.rd c.args.key f.in-Key.is c.args.layout.now same key)) in
-              goes_between turn at_pc
+                let turn : Turned w x r q c.loop-words.words (core_of c.match-advance.hart) (space_of c.advance.new.mem) =
+                subst (λ (h : HeldCore). Turned w x r q c.loop-words.words (core_of h) (space_of c.advance.new.mem)) (sym f.hart-is)
+                (subst (λ (d : Core). Turned w x r q c.loop-words.words d (space_of c.advance.new.mem)) (sym f.answer.ensures)
+                (keyed w a (record { outcome = c.advance.ensures.outcome; moves = c.advance.ensures.moves }) k f.in-Key.rd c.args.key f.in-Key.is c.args.layout.now same key)) in
+                goes_between turn at_pc
+          ];
+      anew = λ w x r a same shows at.
+          let at_pc : is_arrival w.image.layout (core_of c.match-advance.hart).pc ≡ false =
+          ap₂ is_arrival (sym same) (sym c.pc.ensures) ∙ sym c.is_arrival.ensures ∙ c.if-is_arrival.false in
+          let k = c.loop-words.invariant.anew w x r a same shows at in
+          elim c.match-advance.branch [
+            | in-Done f ↦
+                subst (λ (h : HeldCore). Anew w x r (c.loop-words.words + 1) (core_of h) (space_of c.advance.new.mem)) (sym f.hart-is)
+                (passes_on (onward w a (record { outcome = c.advance.ensures.outcome; moves = c.advance.ensures.moves }) k f.in-Done.is)
+                (subst (λ (h : HeldCore). is_arrival w.image.layout (core_of h).pc ≡ false) f.hart-is at_pc))
+            | in-Key f ↦ absurd (keyless w a (record { outcome = c.advance.ensures.outcome; moves = c.advance.ensures.moves }) k f.in-Key.rd f.in-Key.is tt)
           ];
     }
 
 pub returns-clause-block : goal.returns-clause-block
 returns-clause-block c w x r q a same shows at key = let k = c.loop-words.invariant.way w x r q a same shows at key in absurd (omega (arith, k.few, c.loop-words-test.false))
+
+pub returns-clause-anew : goal.returns-clause-anew
+returns-clause-anew c w x r a same shows at = absurd (omega (arith, anew-few w a at (c.loop-words.invariant.anew w x r a same shows at), c.loop-words-test.false))
