@@ -7,3 +7,4 @@ pub mod WalkEnds
 pub mod WalkWords
 pub mod Strides
 pub mod Onward
+pub mod Behind

@@ -34,7 +34,7 @@ use Rattle.shadow_laws.proofs.Sound.{Target, target-of, parked_running}
 use Rattle.shadow_laws.proofs.TextBlocks.{text}
 use Rattle.hint_laws.proofs.Within.{Doing, does, ends, restarts, goes_to, Within, restarting, within-running}
 use Rattle.hint_laws.proofs.WithinSteps as word
-use Rattle.hint_laws.proofs.WithinSteps.{IsQuiet, Comes, flows, loads, stores, returns, Turns, asks, asks_again, Leads, goes, turns, reaches, halts, within-leads, flow_faults, load_faults, store_parks, call_parks, leaves_text, last_site, exits}
+use Rattle.hint_laws.proofs.WithinSteps.{IsQuiet, Leaves, all, tables, copies, clears, Comes, flows, loads, stores, returns, Turns, asks, asks_again, Leads, goes, turns, reaches, halts, within-leads, flow_faults, load_faults, store_parks, call_parks, leaves_text, last_site, exits}
 use Rattle.hint_laws.proofs.Followed.{program_in}
 use Rattle.hint_laws.proofs.Spots.{inner-arrival, within-whole}
 use Rattle.hint_laws.proofs.WordFacts.{word-leaves, word-hints_stay}
@@ -48,7 +48,7 @@ use Rattle.hart_step.specs.declared.event.Event.TheVariants as event
 use Rattle.shadow_walk.specs.Shows.{ShowsIn, ShowsShadow, AtKey, AtCall, MovesBy}
 use Rattle.shadow_walk.specs.Walks.{words_on}
 use Rattle.shadow_walk.specs.Restarts as again
-use Rattle.shadow_walk.specs.Restarts.{StandsAnew, IsUnboxed, Restarts}
+use Rattle.shadow_walk.specs.Restarts.{StandsAnew, IsUnboxed, LeavesOwn, Restarts}
 use Rattle.shadow_walk.specs.declared.walking.Walked.TheVariants as walked
 use Rattle.shadow_walk.proofs.Told.{Tells, tells}
 use Rattle.shadow_walk.proofs.OnTheWay.{sized-of, of-sized}
@@ -58,15 +58,47 @@ use Rattle.shadow_walk.proofs.Strides.{Stepped, IsStray}
 -- ---- on the way
 
 -- no byte is known
-abbrev unknown : ℕ → Option ℕ
+abbrev pub unknown : ℕ → Option ℕ
 unknown a = None
 
 -- whether the shadow is in RESTART, or behind an HCALL
-abbrev IsBeyond : Doing → Type 0
+abbrev pub IsBeyond : Doing → Type 0
 IsBeyond (does p i g) = ⊥
 IsBeyond (ends g) = ⊥
 IsBeyond (restarts site g) = ⊤
 IsBeyond (goes_to to g) = ⊤
+
+-- behind an HCALL what is shared stays
+abbrev pub SharedAs : Doing → Memory → Memory → Type 0
+SharedAs (does p i g) new old = ⊤
+SharedAs (ends g) new old = ⊤
+SharedAs (restarts site g) new old = ⊤
+SharedAs (goes_to to g) new old = new ≡ old
+
+shared-same : (f : Doing) (m : Memory) → SharedAs f m m
+shared-same (does p i g) m = tt
+shared-same (ends g) m = tt
+shared-same (restarts site g) m = tt
+shared-same (goes_to to g) m = refl
+
+shared-next : (f : Doing) (new mid old : Memory) → SharedAs f new mid → SharedAs f mid old → SharedAs f new old
+shared-next (does p i g) new mid old a b = tt
+shared-next (ends g) new mid old a b = tt
+shared-next (restarts site g) new mid old a b = tt
+shared-next (goes_to to g) new mid old a b = a ∙ b
+
+-- as each word leaves it
+shared-left : {l : Layout} {old new : Memory} {f : Doing} → Leaves l old new f → SharedAs f new old
+shared-left {l} {old} {new} {f} (all same) = by_doing f
+  where
+    by_doing : (g : Doing) → SharedAs g new old
+    by_doing (does p i g) = tt
+    by_doing (ends g) = tt
+    by_doing (restarts site g) = tt
+    by_doing (goes_to to g) = same
+shared-left (tables h) = tt
+shared-left (copies h) = tt
+shared-left clears = tt
 
 -- hart and memory show a run on its way there, so many words behind the run r, and the next word is that of this number, counted from 1, of so many at most
 pub record Passing (w : World) (x : ℕ → Answer) (r : Run) (f : Doing) (most words : ℕ) (c : Core) (s : Space) : Type 0 where
@@ -78,8 +110,16 @@ pub record Passing (w : World) (x : ℕ → Answer) (r : Run) (f : Doing) (most 
   pub shows : ShowsShadow w run c s
   pub within : Within w unknown (program_in w run) f (shade_of run) left
   pub sized : Sized (stock_of run)
-  pub files : run.shadow.files ≡ r.shadow.files
+  pub kept : LeavesOwn r run
+  pub shared : SharedAs f run.shared r.shared
   pub few : words + left ≤ suc most
+
+-- the words are counted from 1, and those that are left come to no more than all
+pub words-some : {w : World} {x : ℕ → Answer} {r : Run} {f : Doing} {most words : ℕ} {c : Core} {s : Space} → Passing w x r f most words c s → 0 < words
+words-some k = omega (arith, k.number)
+
+pub few-words : {w : World} {x : ℕ → Answer} {r : Run} {f : Doing} {most words : ℕ} {c : Core} {s : Space} → Passing w x r f most words c s → words ≤ most
+few-words k = omega (arith, k.few, within-some k.within)
 
 -- ---- what a word leads to
 
@@ -94,14 +134,14 @@ pub record StandsBehind (w : World) (r : Run) (to : ℕ) (g : Regs) : Type 0 whe
   pub sized : Sized (stock_of r)
 
 -- it comes to a block behind an HCALL alone
-abbrev ComesTo : World → Run → Doing → Type 0
+abbrev pub ComesTo : World → Run → Doing → Type 0
 ComesTo w r (does p i g) = ⊤
 ComesTo w r (ends g) = ⊤
 ComesTo w r (restarts site g) = ⊥
 ComesTo w r (goes_to to g) = StandsBehind w r to g
 
 -- why it parks
-abbrev HaltsBy : Layout → Park → Doing → Type 0
+abbrev pub HaltsBy : Layout → Park → Doing → Type 0
 HaltsBy l cause (does p i g) = ⊤
 HaltsBy l cause (ends g) = ⊤
 HaltsBy l cause (restarts site g) = (cause ≡ park.Exit) ⊎ (cause ≡ park.Store)
@@ -132,12 +172,13 @@ turns-call (asks_again answer rs t word has loaded tabs fresh to answers) = ap i
 -- behind a word the shadow is on its way still, or at a block
 pub data Passed (w : World) (x : ℕ → Answer) (r : Run) (f : Doing) (most words : ℕ) (d : Core) (t : Space) : Type 0 where
   goes_on : is_arrival w.image.layout d.pc ≡ false → Passing w x r f most (words + 1) d t → Passed w x r f most words d t
-  comes : is_arrival w.image.layout d.pc ≡ true → words ≤ most → ShowsShadow w (words_on w x r words) d t → ComesTo w (words_on w x r words) f → Passed w x r f most words d t
+  comes : is_arrival w.image.layout d.pc ≡ true → words ≤ most → ShowsShadow w (words_on w x r words) d t → ComesTo w (words_on w x r words) f → LeavesOwn r (words_on w x r words) → SharedAs f (words_on w x r words).shared r.shared
+      → Passed w x r f most words d t
 
 -- on the way it is where the test of the pc says so
 pub passes_on : {w : World} {x : ℕ → Answer} {r : Run} {f : Doing} {most words : ℕ} {d : Core} {t : Space} → Passed w x r f most words d t → is_arrival w.image.layout d.pc ≡ false → Passing w x r f most (words + 1) d t
 passes_on (goes_on between k) e = k
-passes_on (comes there most shows at) e = false_true (sym e ∙ there)
+passes_on (comes there most shows at kept shared) e = false_true (sym e ∙ there)
 
 module _ (w : World) (a : Accepted w) {x : ℕ → Answer} {r : Run} {f : Doing} {most words : ℕ} {h : Held} {c : Core} {s : Space} {e : Event} {d : Core} {t : Space} (step : Stepped h c s e d t) (k : Passing w x r f most words c s) where
   abbrev l : Layout
@@ -161,14 +202,11 @@ module _ (w : World) (a : Accepted w) {x : ℕ → Answer} {r : Run} {f : Doing}
   made-words = made-next ∙ ap (words_on w x r) (sym k.number)
 
   -- what the event tells
-  told : Tells e w y
+  pub told : Tells e w y
   told = subst (λ (e : Event). Tells e w y) (sym (ap (λ (o : Outcome). o.event) step.outcome)) (tells w a y h c s k.shows)
 
   moved : MovesBy e w y c s d t
   moved = step.moves w y a k.shows
-
-  few : words ≤ most
-  few = omega (arith, k.few, within-some k.within)
 
   -- the numbers stay in their bounds
   sized-next : Sized (stock_of next)
@@ -176,6 +214,17 @@ module _ (w : World) (a : Accepted w) {x : ℕ → Answer} {r : Run} {f : Doing}
 
   leads : Leads w unknown (program_in w y) f k.left y (shade_of next)
   leads = within-leads w a (x k.before) y k.sized unknown (λ p rd rs1 op imm g same t has b. tt) k.within
+
+  -- own side and descriptors stay
+  kept-next : IsQuiet w y → LeavesOwn r next
+  kept-next quiet = record { own = (word-leaves w (x k.before) y runs).own ∙ k.kept.own; files = (word-hints_stay w (x k.before) y runs quiet).files ∙ k.kept.files }
+
+  -- what is shared at a block
+  shared-there : {p : ℕ} {rs : Regs} {tabs : Tabs} {g : Doing} → Comes l unknown (program_in w y) y.shared p rs tabs next.shared g → SharedAs g next.shared y.shared
+  shared-there (flows arrives same) = tt
+  shared-there (loads arrives same) = tt
+  shared-there (stores t0 arrives keeps) = tt
+  shared-there (returns target regs same) = same
 
   -- a block that it comes to
   at-block : (p base : ℕ) (pt : Point) → HasBlock l p → address base pt.place ≡ block_at l p + 4 → TableOk l pt.tabs → Sees l base (shade_of next) pt next.shared → {g : Doing} → Comes l unknown (program_in w y) y.shared p pt.regs pt.tabs next.shared g → ComesTo w next g
@@ -215,13 +264,15 @@ module _ (w : World) (a : Accepted w) {x : ℕ → Answer} {r : Run} {f : Doing}
             shows = shows;
             within = subst (λ (m : Memory). Within w unknown m f (shade_of next) j) (sym (program-left w a (x k.before) y (word-leaves w (x k.before) y runs))) within;
             sized = sized-next;
-            files = (word-hints_stay w (x k.before) y runs quiet).files ∙ k.files;
+            kept = kept-next quiet;
+            shared = shared-next f next.shared y.shared r.shared (shared-left leaves) k.shared;
             few = omega (arith, k.few, less);
           })
       by_leads (turns j less to new turn within place) = false_true (sym quiet ∙ turns-call turn)
       by_leads (reaches p base pt block place ok shown arrival is) =
-          comes (ap (is_arrival l) (shows.pc ∙ shown.pc ∙ place) ∙ block-arrives w a p block) few (subst (λ (r : Run). ShowsShadow w r d t) made-words shows)
-          (subst (λ (r : Run). ComesTo w r f) made-words (at-block p base pt block place ok shown arrival))
+          comes (ap (is_arrival l) (shows.pc ∙ shown.pc ∙ place) ∙ block-arrives w a p block) (few-words k) (subst (λ (r : Run). ShowsShadow w r d t) made-words shows)
+          (subst (λ (r : Run). ComesTo w r f) made-words (at-block p base pt block place ok shown arrival)) (subst (λ (z : Run). LeavesOwn r z) made-words (kept-next quiet))
+          (subst (λ (z : Run). SharedAs f z.shared r.shared) made-words (shared-next f next.shared y.shared r.shared (shared-there arrival) k.shared))
       by_leads (halts cause state t has ok stops) = parked_running (sym state ∙ shows.state)
 
   -- an HPARK
@@ -271,7 +322,7 @@ module _ (w : World) (a : Accepted w) {x : ℕ → Answer} {r : Run} {f : Doing}
     pub word : fetch_shadow w (words_on w x r (words - 1)).shadow.pc ≡ Some (Hcall unhinted)
     pub asks : AsksIn l (Hcall unhinted) (words_on w x r (words - 1)) f
     pub sized : Sized (stock_of (words_on w x r (words - 1)))
-    pub files : (words_on w x r (words - 1)).shadow.files ≡ r.shadow.files
+    pub kept : LeavesOwn r (words_on w x r (words - 1))
 
   pub called : (unhinted : Bool) → e ≡ event.Call unhinted → Called unhinted
   called unhinted is =
@@ -281,7 +332,7 @@ module _ (w : World) (a : Accepted w) {x : ℕ → Answer} {r : Run} {f : Doing}
         word = subst (λ (r : Run). fetch_shadow w r.shadow.pc ≡ Some (Hcall unhinted)) made-before at.word;
         asks = subst (λ (r : Run). AsksIn l (Hcall unhinted) r f) made-before (within-asks w y (Hcall unhinted) at.word refl k.within);
         sized = subst (λ (r : Run). Sized (stock_of r)) made-before k.sized;
-        files = subst (λ (z : Run). z.shadow.files ≡ r.shadow.files) made-before k.files;
+        kept = subst (λ (z : Run). LeavesOwn r z) made-before k.kept;
       }
     where
       at : AtCall unhinted w y c s d t
@@ -342,7 +393,8 @@ begins_anew l c s w x r a same shows at =
       shows = shows;
       within = subst (λ (n : ℕ). Within w unknown (program_in w r) (restarts site g) (shade_of r) (63 + 5 * n)) (sym at.has.count) within;
       sized = sized-of r at.sized;
-      files = refl;
+      kept = record { own = refl; files = refl };
+      shared = tt;
       few = omega arith;
     }
   where
@@ -370,7 +422,7 @@ begins_anew l c s w x r a same shows at =
         })
 
 -- a register above 0 reads as it is
-read-register : (rs : Registers) (i : ℕ) → 0 < i → rs i ≡ reg rs i
+pub read-register : (rs : Registers) (i : ℕ) → 0 < i → rs i ≡ reg rs i
 read-register rs zero above = absurd (omega (arith, above))
 read-register rs (suc i) above = refl
 
@@ -394,7 +446,7 @@ module _ (w : World) (a : Accepted w) {x : ℕ → Answer} {r : Run} {words : �
   -- nor does it come to a block
   pub never-comes : Passed w x r (restarts (boxed_site r.shared) (boxed_in r)) (63 + 5 * slots_in_use r.shared) words d t → is_arrival w.image.layout d.pc ≡ true → ⊥
   never-comes (goes_on between k) e = false_true (sym between ∙ e)
-  never-comes (comes there most shows at) e = at
+  never-comes (comes there most shows at kept shared) e = at
 
   -- it makes its call
   pub calls-anew : (unhinted : Bool) → e ≡ event.Call unhinted → Restarts w x r d t (Some (walked.Call unhinted (words - 1)))
@@ -402,8 +454,8 @@ module _ (w : World) (a : Accepted w) {x : ℕ → Answer} {r : Run} {words : �
       let f : Called w a step k unhinted = called w a step k unhinted is in
       let true_is : true ≡ unhinted = let g : Hcall unhinted ≡ Hcall true = f.asks.unhinted in cc in
       subst (λ (b : Bool). Restarts w x r d t (Some (walked.Call b (words - 1)))) true_is
-      (again.calls (words - 1) (omega (arith, few w a step k)) f.shows (f.word ∙ ap (λ (b : Bool). Some (Hcall b)) (sym true_is)) (unboxed w r.shared _ (Hcall unhinted) f.sized f.asks) f.files)
+      (again.calls (words - 1) (omega (arith, few-words k)) f.shows (f.word ∙ ap (λ (b : Bool). Some (Hcall b)) (sym true_is)) (unboxed w r.shared _ (Hcall unhinted) f.sized f.asks) f.kept)
 
 -- there are never more words than a walk has
 pub anew-few : (w : World) (a : Accepted w) {x : ℕ → Answer} {r : Run} {words : ℕ} {c : Core} {s : Space} → StandsAnew w r → Anew w x r words c s → words ≤ 63 + 5 * 65_536
-anew-few w a at k = omega (arith, k.few, within-some k.within, at.has.count, at.ok.count, (text w a).regions_few)
+anew-few w a at k = omega (arith, few-words k, at.has.count, at.ok.count, (text w a).regions_few)

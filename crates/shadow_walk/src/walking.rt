@@ -7,7 +7,7 @@ ghost use Rattle.hart_mem.specs.Held.{space_of};
 ghost use Rattle.hart_step.specs.Core.{core_of};
 ghost use Rattle.run_model.specs.ShadowMoves.{is_arrival};
 ghost use Rattle.shadow_walk.specs.Walks.{BlockIsOneInstruction};
-ghost use Rattle.shadow_walk.specs.Restarts.{GoesAnew};
+ghost use Rattle.shadow_walk.specs.Restarts.{GoesAnew, GoesOnward, GoesBack};
 
 use crate::moves::advance;
 use hart_mem::Mem;
@@ -29,14 +29,17 @@ pub enum Walked {
 const MOST_WORDS: u32 = 72 + 5 * 65_536;
 
 /// Steps a hart in the shadow's view up to the next arrival, park or call: from word 1 of a block
-/// through its instruction, or from the first word of RESTART to its call. An HKEY gets `key`. None
-/// where a word traps or too many are executed, which no code of a rewritten program does.
+/// through its instruction, from the first word of RESTART to its call, or from the word behind an
+/// HCALL to the block behind the call. An HKEY gets `key`. None where a word traps or too many are
+/// executed, which no code of a rewritten program does.
 pub fn walk(hart: &mut Hart, mem: &mut Mem, layout: &Layout, key: u64) -> Option<Walked>
     requires shadow { (core_of hart.old).view ≡ Shadow }
     requires lawful { IsTrue (is_lawful layout.now) }
     ensures view { (core_of hart.new).view ≡ Shadow }
     ensures block { BlockIsOneInstruction layout.now key result (core_of hart.old) (space_of mem.old) (core_of hart.new) (space_of mem.new) }
     ensures anew { GoesAnew layout.now result (core_of hart.old) (space_of mem.old) (core_of hart.new) (space_of mem.new) }
+    ensures onward { GoesOnward layout.now result (core_of hart.old) (space_of mem.old) (core_of hart.new) (space_of mem.new) }
+    ensures back { GoesBack layout.now result (core_of hart.old) (space_of mem.old) (core_of hart.new) (space_of mem.new) }
 {
     for words in 1..=MOST_WORDS {
         match &advance(hart, mem) {
