@@ -6,3 +6,5 @@ pub mod OnTheWay
 pub mod WalkEnds
 pub mod WalkWords
 pub mod Strides
+pub mod Onward
+pub mod Behind

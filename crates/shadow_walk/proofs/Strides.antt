@@ -1,5 +1,5 @@
 -- Each turn of the walk: a hart and a memory that show a run on its way through a block, and what the event of a step makes of them.
-use Rattle.std.proofs.Common.{◌≡◌, ℕ, suc, ◌+◌, ◌-◌, ◌<◌, ◌≤◌, ◌⊎◌, inl, inr, Bool, true, false, Some, refl, ◌∙◌, ap, sym, subst, arith}
+use Rattle.std.proofs.Common.{◌≡◌, ℕ, suc, ◌+◌, ◌-◌, ◌≤◌, ◌⊎◌, inl, inr, Bool, true, false, Some, refl, ◌∙◌, ap, sym, subst, arith}
 use Rattle.std.specs.Prelude.{⊤, ◌≢◌}
 use Rattle.spec_base.specs.declared.layout.Layout.{Layout}
 use Rattle.spec_base.specs.declared.note.ShadowState.TheVariants.{Parked}
@@ -27,11 +27,10 @@ use Rattle.mark_laws.proofs.OneCall.{plan_agrees}
 use Rattle.hint_laws.proofs.Within.{Doing, does, ends}
 use Rattle.hint_laws.proofs.Within.{within-stands, within-running}
 use Rattle.hint_laws.proofs.WithinSteps.{IsQuiet}
-use Rattle.hint_laws.proofs.Followed.{known, registers, view_in, DoesOf, instruction, text_end, restart, is_storing, is_restart}
+use Rattle.hint_laws.proofs.Followed.{known, registers, view_in, is_storing}
 use Rattle.hint_laws.proofs.Views.{has-registers}
 use Rattle.shadow_laws.proofs.Sound.{parked_running}
 use Rattle.hint_laws.proofs.ParkPlaces.{is_named, park-named}
-use Rattle.mark_laws.proofs.OneInstruction.{true_false}
 use Rattle.hart_mem.specs.Held.{Held, lacks_frame}
 use Rattle.hart_step.specs.Core.{Core}
 use Rattle.hart_step.specs.Step.{Outcome, outcome, stepped, effect_here}
@@ -44,7 +43,7 @@ use Rattle.shadow_walk.proofs.Told.{Tells, tells}
 use Rattle.shadow_walk.proofs.OnTheWay.{of-sized, use-none, Walking, walking-sees, Started, starts}
 use Rattle.shadow_walk.proofs.WalkEnds.{OnInstruction, on-instruction}
 use Rattle.shadow_walk.proofs.WalkRows as asks
-use Rattle.shadow_walk.proofs.WalkRows.{SomeLeft, within-some, is_other, Asks, AsksIn, within-asks, Completing, within-completes}
+use Rattle.shadow_walk.proofs.WalkRows.{within-some, is_other, Asks, AsksIn, within-asks, within-completes}
 use Rattle.shadow_walk.proofs.WalkWords as word
 use Rattle.shadow_walk.proofs.WalkWords.{Went, went, shown-register}
 
@@ -109,18 +108,6 @@ is-stray (event.Park cause) d k p c = p cause refl
 is-stray (event.Call unhinted) d k p c = c unhinted refl
 is-stray _ d k p c = tt
 
--- words are left on an instruction
-some-left : {w : World} {q : State} {d : Doing} {n : ℕ} → DoesOf w q d → is_restart d ≡ false → SomeLeft d n → 0 < n
-some-left (instruction i g e has) plain some = some
-some-left (text_end g e) plain some = some
-some-left (restart g e) plain some = true_false plain
-
--- each word completes there
-completing : {w : World} {q : State} {r : Run} {d : Doing} → DoesOf w q d → is_restart d ≡ false → Completing w r d → WordCompletes w r
-completing (instruction i g e has) plain c = c
-completing (text_end g e) plain c = c
-completing (restart g e) plain c = true_false plain
-
 module _ (w : World) (a : Accepted w) {x : ℕ → Answer} {r : Run} {q : State} {words : ℕ} {h : Held} {c : Core} {s : Space} {e : Event} {d : Core} {t : Space} (step : Stepped h c s e d t) (k : Striding w x r q words c s) where
   abbrev l : Layout
   l = w.image.layout
@@ -147,7 +134,7 @@ module _ (w : World) (a : Accepted w) {x : ℕ → Answer} {r : Run} {q : State}
   moved = step.moves w y a k.shows
 
   few : words ≤ 227
-  few = omega (arith, k.few, some-left k.walking.doing k.walking.plain (within-some k.walking.within))
+  few = omega (arith, k.few, within-some k.walking.within)
 
   -- a word that isn't an HCALL, and behind which the shadow runs
   behind : (m : Core) (u : Space) → is_call_word (fetch_shadow w y.shadow.pc) ≡ false → ShowsShadow w next m u → Turned w x r q words m u
@@ -195,7 +182,7 @@ module _ (w : World) (a : Accepted w) {x : ℕ → Answer} {r : Run} {q : State}
           by_why (subst (λ (cause : Park). ParksBy w q cause ⊎ ((cause ≡ park.Exit) ⊎ (cause ≡ park.Store))) same why)
 
   -- what an HKEY or an HCALL is asked with
-  asked : (gate : Instr) → fetch_shadow w y.shadow.pc ≡ Some gate → is_other (Some gate) ≡ false → AsksIn gate y.shadow.registers k.doing
+  asked : (gate : Instr) → fetch_shadow w y.shadow.pc ≡ Some gate → is_other (Some gate) ≡ false → AsksIn l gate y k.doing
   asked gate f g = within-asks w y gate f g k.walking.within
 
   -- the plan in the registers of a call is the state's
@@ -225,7 +212,7 @@ module _ (w : World) (a : Accepted w) {x : ℕ → Answer} {r : Run} {q : State}
           by_key (ap key_of (same-plan g (k.walking.sees quiet) on.3 e10 e11 e12 e17) ∙ ap (λ (l : Layout). key_of (plan_of l q)) (sym same_layout) ∙ sym is_key)
       by_asks p i g on same call (asks.call f has) = absurd cc
 
-      by_doing : (f : Doing) → OnInstruction w q f → f ≡ k.doing → AsksIn (Hkey rd) y.shadow.registers f → Turned w x r q words (record d { registers = with_reg d.registers rd number; pc = after d.pc }) t
+      by_doing : (f : Doing) → OnInstruction w q f → f ≡ k.doing → AsksIn l (Hkey rd) y f → Turned w x r q words (record d { registers = with_reg d.registers rd number; pc = after d.pc }) t
       by_doing (does p i g) on same f = by_asks p i g on same f.0 f.1
       by_doing (ends g) on same f = absurd f
       by_doing _ on same f = absurd on
@@ -266,7 +253,7 @@ module _ (w : World) (a : Accepted w) {x : ℕ → Answer} {r : Run} {q : State}
           (subst (λ (r : Run). fetch_shadow w r.shadow.pc ≡ Some (Hcall false)) made-before (at.word ∙ ap (λ (b : Bool). Some (Hcall b)) (sym hinted)))
           (on.1 ∙ ap (λ (i : Instr). Some i) call) (subst (λ (r : Run). HasState w r q) made-before (state g (k.walking.sees quiet) on.3 has)))
 
-      by_doing : (f : Doing) → OnInstruction w q f → f ≡ k.doing → AsksIn (Hcall unhinted) y.shadow.registers f → Walks w x r q d t (Some (walked.Call unhinted (words - 1)))
+      by_doing : (f : Doing) → OnInstruction w q f → f ≡ k.doing → AsksIn l (Hcall unhinted) y f → Walks w x r q d t (Some (walked.Call unhinted (words - 1)))
       by_doing (does p i g) on same f = by_asks p i g on same f.0 f.1
       by_doing (ends g) on same f = absurd f
       by_doing _ on same f = absurd on
@@ -275,7 +262,7 @@ module _ (w : World) (a : Accepted w) {x : ℕ → Answer} {r : Run} {q : State}
   pub strayed : (f : Event) → e ≡ f → IsStray f → ⊥
   strayed (event.Trap trap) is stray =
       let never : WordCompletes w y → ⊥ = subst (λ (e : Event). Tells e w y) is told in
-      never (completing k.walking.doing k.walking.plain (within-completes w a y k.walking.sized (known l no_marks q) (λ p rd rs1 op imm g f. walking-sees k.walking (ap is_storing f)) k.walking.within))
+      never (within-completes w a y k.walking.sized (known l no_marks q) (λ p rd rs1 op imm g f. walking-sees k.walking (ap is_storing f)) k.walking.within)
   strayed event.Done is stray = stray
   strayed (event.Key rd) is stray = stray
   strayed (event.Park cause) is stray = stray

@@ -1,6 +1,6 @@
--- What the row of a shadow on an instruction says of its word: some words are left, it doesn't trap, and it asks for a key or makes a call in a call alone, with the program's registers.
-use Rattle.std.specs.Prelude.{⊤}
-use Rattle.std.proofs.Common.{◌≡◌, ℕ, ◌+◌, ◌<◌, inl, inr, Bool, true, false, ◌==◌, lit<, ℤ, List, ◌++◌, slice_get, Option, Some, None, refl, ◌∙◌, ap, sym, subst, arith}
+-- What the row of a shadow says of its word: some words are left, it doesn't trap, it asks for a key in a call alone, with the program's registers, and it makes a call there or at the end of a restart.
+use Rattle.std.proofs.Common.{◌≡◌, ℕ, zero, suc, ◌+◌, ◌-◌, ◌^◌, ◌<◌, ◌≤◌, inl, inr, Bool, true, false, ◌&&◌, ◌==◌, lit<, ℤ, List, [], ◌∷◌, ◌++◌, slice_get, Option, Some, None, refl, ◌∙◌, ap, sym, subst, arith}
+use Rattle.std.proofs.lemmas.Bool.{and_parts}
 use Rattle.spec_base.specs.Word.{plus_int}
 use Rattle.spec_base.specs.declared.layout.Layout.{Layout}
 use Rattle.spec_base.specs.declared.park.Park.{Park}
@@ -9,7 +9,7 @@ use Rattle.rv_decode.specs.declared.instr.Instr.TheVariants.{Auipc, Jal, Jalr, B
 use Rattle.rv_decode.specs.declared.instr.BranchOp.{BranchOp}
 use Rattle.rv_decode.specs.declared.instr.LoadOp.{LoadOp}
 use Rattle.rv_decode.specs.declared.instr.StoreOp.{StoreOp}
-use Rattle.rv_model.specs.Memory.{Memory}
+use Rattle.rv_model.specs.Memory.{Memory, loaded}
 use Rattle.rv_model.specs.Registers.{Registers, reg}
 use Rattle.rv_model.specs.Arithmetic.{load_width}
 use Rattle.rv_model.specs.Space.{program_byte}
@@ -22,8 +22,8 @@ use Rattle.run_model.specs.Run.{World, Run, rewritten_words}
 use Rattle.run_model.specs.OwnLaws.{Accepted}
 use Rattle.run_model.specs.ShadowMoves.{fetch_shadow}
 use Rattle.side_model.specs.Hart.{Regs, get, put, Priv}
-use Rattle.side_model.specs.Tables.{Tabs}
-use Rattle.side_model.specs.Places.{Place, Helper, Loading, Storing, Width, code, HasBlock}
+use Rattle.side_model.specs.Tables.{Tabs, HasTabs}
+use Rattle.side_model.specs.Places.{Place, InBlock, Helper, Restarting, helper_words, Loading, Storing, Width, code, HasBlock}
 use Rattle.side_model.specs.Words.{exec_some}
 use Rattle.side_model.specs.Rows.{Led}
 use Rattle.side_model.specs.Sees.{Shade, shade_of, HasRegs}
@@ -53,13 +53,18 @@ use Rattle.rows_flow.proofs.PlainWords.{plain_leads, auipc_leads, park_leads, gu
 use Rattle.rows_flow.proofs.BranchWords.{branch_leads}
 use Rattle.rows_flow.proofs.JalWords.{jal_leads, pad_leads}
 use Rattle.rows_flow.proofs.JalrWords.{jalr_leads, jump_follows}
+use Rattle.rows_log.specs.CallRows.{IsSite, CallArrives}
+use Rattle.rows_log.specs.RestartRows as restart
+use Rattle.rows_log.specs.RestartRows.{HasBox, AreLoaded, IsFresh, RestartRow, UnboxedRow, RestartedRow}
+use Rattle.rows_log.proofs.CallWords.{called_arrives}
+use Rattle.rows_log.proofs.RestartWords.{restart_leads, restarted_leads}
 use Rattle.shadow_laws.proofs.AnyCalls as calls
 use Rattle.shadow_laws.proofs.AnyCalls.{AnyCallRow, any_call-leads, a3, b6}
 use Rattle.shadow_laws.proofs.ShadowNumbers.{Sized, stock_of, program-bytes}
 use Rattle.shadow_laws.proofs.Sound.{At, bare, pad-target, target-block}
 use Rattle.shadow_laws.proofs.TextBlocks.{text}
-use Rattle.hint_laws.proofs.Within.{Doing, does, ends, restarts, goes_to, AreSeen, known_from, Within, computing, quartering, branching, linking, padding, going, jumping, parking, guarded, loading, storing, calling, answered, restarting, unboxing}
-use Rattle.hint_laws.proofs.WithinSteps.{known-loaded}
+use Rattle.hint_laws.proofs.Within.{Doing, does, ends, restarts, goes_to, AreSeen, known_from, BehindRow, behind, Within, computing, quartering, branching, linking, padding, going, jumping, parking, guarded, loading, storing, calling, answered, restarting, unboxing}
+use Rattle.hint_laws.proofs.WithinSteps.{known-loaded, behind-is}
 
 -- ---- words that are left
 
@@ -114,14 +119,33 @@ call-some : {l : Layout} {p : ℕ} {q : Regs} {place : Place} {rs : Regs} {s : P
 call-some (calls.b1 s) = lit< tt
 call-some _ = lit< tt
 
--- so there are on an instruction
-abbrev pub SomeLeft : Doing → ℕ → Type 0
-SomeLeft (does p i q) n = 0 < n
-SomeLeft (ends q) n = 0 < n
-SomeLeft (restarts site q) n = ⊤
-SomeLeft (goes_to to q) n = ⊤
+restart-some : {l : Layout} {site : ℕ} {q : Regs} {place : Place} {rs : Regs} {s : Priv} {t : Tabs} {n : ℕ} → RestartRow l site q place rs s t n → 0 < n
+restart-some (restart.r1 s) = omega arith
+restart-some (restart.r2 s) = omega arith
+restart-some (restart.r3 s) = omega arith
+restart-some (restart.r4 s) = omega arith
+restart-some (restart.r5 s) = omega arith
+restart-some (restart.r6 j s h c) = omega arith
+restart-some (restart.r7 j s h c) = omega arith
+restart-some (restart.r8 j s h c) = omega arith
+restart-some (restart.r9 j s h c) = omega arith
+restart-some (restart.r10 j s h c) = omega arith
+restart-some (restart.r18-47 k s less fresh x31 loaded) = omega (arith, less)
+restart-some _ = lit< tt
 
-pub within-some : {w : World} {bytes : ℕ → Option ℕ} {program : Memory} {d : Doing} {h : Shade} {n : ℕ} → Within w bytes program d h n → SomeLeft d n
+restarted-some : {l : Layout} {site : ℕ} {q : Regs} {place : Place} {rs : Regs} {s : Priv} {t : Tabs} {n : ℕ} → RestartedRow l site q place rs s t n → 0 < n
+restarted-some (inl row) = by_row row
+  where
+    by_row : {l : Layout} {site : ℕ} {q : Regs} {place : Place} {rs : Regs} {s : Priv} {t : Tabs} {n : ℕ} → UnboxedRow l site q place rs s t n → 0 < n
+    by_row (restart.r49 s) = lit< tt
+    by_row (restart.r50 s) = lit< tt
+restarted-some (inr row) = jump-some row
+
+behind-some : {q : Regs} {place : Place} {rs : Regs} {s : Priv} {t : Tabs} {n : ℕ} → BehindRow q place rs s t n → 0 < n
+behind-some (behind s) = lit< tt
+
+-- so there are in each row
+pub within-some : {w : World} {bytes : ℕ → Option ℕ} {program : Memory} {d : Doing} {h : Shade} {n : ℕ} → Within w bytes program d h n → 0 < n
 within-some (computing p i q is c at) = plain-some at.row
 within-some (quartering p rd imm q is f at) = auipc-some at.row
 within-some (branching p op rs1 rs2 imm q is at) = branch-some at.row
@@ -142,9 +166,9 @@ within-some {program = program} (storing p op rs1 rs2 imm q t0 is at) = by_row p
     by_row program (inl (row, at)) = check-some row
     by_row program (inr (stage, row, at)) = store-some row
 within-some (calling p q is at before) = call-some at.row
-within-some (answered p answer q is at) = tt
-within-some (restarting site q base words is fits at) = tt
-within-some (unboxing site q base words is fits at) = tt
+within-some (answered p answer q is at) = behind-some at.row
+within-some (restarting site q base words is fits at) = restart-some at.row.0
+within-some (unboxing site q base words is fits at) = restarted-some at.row
 
 -- ---- keys and calls
 
@@ -155,7 +179,7 @@ is_other (Some (Hkey rd)) = false
 is_other (Some (Hcall unhinted)) = false
 is_other (Some i) = true
 
--- no row but one of a call is at another
+-- a row of neither a call nor RESTART is at such a word
 plain-other : (l : Layout) (p : ℕ) {i : Instr} {q : Regs} {place : Place} {rs : Regs} {s : Priv} {t : Tabs} {n : ℕ} → Computes i → PlainRow i q place rs s t n → is_other (code l (block l p i) place) ≡ true
 plain-other l p (a_lui rd imm) (plain.w1 s) = refl
 plain-other l p (a_lui rd imm) (plain.w2 s) = refl
@@ -289,12 +313,57 @@ pub data Asks (gate : Instr) (rs : Registers) (q : Regs) : Type 0 where
   key : (rd : ℕ) → gate ≡ Hkey rd → reg rs 10 ≡ get 10 q → reg rs 11 ≡ get 11 q → reg rs 12 ≡ get 12 q → reg rs 17 ≡ get 17 q → Asks gate rs q
   call : gate ≡ Hcall false → HasRegs rs q → Asks gate rs q
 
--- such a word is one of a call
-abbrev pub AsksIn : Instr → Registers → Doing → Type 0
-AsksIn met rs (does p i q) = (i ≡ Ecall) × Asks met rs q
-AsksIn met rs (ends q) = ⊥
-AsksIn met rs (restarts site q) = ⊤
-AsksIn met rs (goes_to to q) = ⊤
+-- the words of a list up to a number are others
+abbrev first-others : ℕ → List Instr → Bool
+first-others zero words = true
+first-others (suc n) [] = false
+first-others (suc n) (i ∷ words) = is_other (Some i) && first-others n words
+
+-- so each of them is
+other-each : (n : ℕ) (words : List Instr) → first-others n words ≡ true → (k : ℕ) → k < n → is_other (slice_get words k) ≡ true
+other-each zero words h k less = absurd (omega (arith, less))
+other-each (suc n) [] h k less = false_true h
+other-each (suc n) (i ∷ words) h zero less = (and_parts (is_other (Some i)) (first-others n words) h).0
+other-each (suc n) (i ∷ words) h (suc k) less = other-each n words (and_parts (is_other (Some i)) (first-others n words) h).1 k (omega (arith, less))
+
+-- what a row of RESTART says at its HCALL: what comes from the box is loaded, and no region has a copy
+data RestartGate (l : Layout) (site : ℕ) (q : Regs) (word : Option Instr) (rs : Regs) (s : Priv) (t : Tabs) : Type 0 where
+  at_end : word ≡ Some (Hcall true) → AreLoaded 30 q rs → IsFresh l t → s.x31 ≡ q.x31 → s.adr ≡ site + 4 → RestartGate l site q word rs s t
+
+restart-gates : (l : Layout) (site : ℕ) (words : List Instr) {q : Regs} {place : Place} {rs : Regs} {s : Priv} {t : Tabs} {n : ℕ} → RestartRow l site q place rs s t n → is_other (code l words place) ≡ false
+    → RestartGate l site q (code l words place) rs s t
+restart-gates l site words (restart.r48 s fresh loaded) e = at_end refl loaded fresh refl refl
+restart-gates l site words (restart.r18-47 k s less fresh x31 loaded) e = true_false (sym (other-each 47 (helper_words l Restarting) refl (17 + k) (omega (arith, less))) ∙ e)
+restart-gates l site words _ e = true_false e
+
+-- the words behind an HCALL are others
+behind-other : (l : Layout) (p : ℕ) {q : Regs} {place : Place} {rs : Regs} {s : Priv} {t : Tabs} {n : ℕ} → BehindRow q place rs s t n → is_other (code l (block l p Ecall) place) ≡ true
+behind-other l p (behind s) = refl
+
+restarted-other : (l : Layout) (site : ℕ) (q : Regs) (base : ℕ) (words : List Instr) {place : Place} {rs : Regs} {s : Priv} {t : Tabs} {n : ℕ} → JumpFits l (site + 4) q base words → RestartedRow l site q place rs s t n → is_other (code l words place) ≡ true
+restarted-other l site q base words fits (inl row) = by_row row
+  where
+    by_row : {place : Place} {rs : Regs} {s : Priv} {t : Tabs} {n : ℕ} → UnboxedRow l site q place rs s t n → is_other (code l words place) ≡ true
+    by_row (restart.r49 s) = refl
+    by_row (restart.r50 s) = refl
+restarted-other l site q base words fits (inr row) = jump-other l (site + 4) q base words fits row
+
+-- what is so of a run whose shadow is at the HCALL of RESTART, with this site and these registers in the box
+pub record Unboxes (l : Layout) (site : ℕ) (q : Regs) (gate : Instr) (r : Run) : Type 0 where
+  pub unhinted : gate ≡ Hcall true
+  pub registers : (i : ℕ) → i ≤ 30 → reg r.shadow.registers i ≡ get i q
+  pub x31 : loaded r.shadow_page (2 ^ 64 - 8) 8 ≡ q.x31
+  pub adr : loaded r.shadow_page (2 ^ 64 - 40) 8 ≡ site + 4
+  pub tables : Tabs
+  pub has : HasTabs l r.shared tables
+  pub fresh : IsFresh l tables
+
+-- such a word is one of a call, or the HCALL of RESTART
+abbrev pub AsksIn : Layout → Instr → Run → Doing → Type 0
+AsksIn l word r (does p i q) = (i ≡ Ecall) × Asks word r.shadow.registers q
+AsksIn l word r (ends q) = ⊥
+AsksIn l word r (restarts site q) = Unboxes l site q word r
+AsksIn l word r (goes_to to q) = ⊥
 
 module _ (w : World) (r : Run) (gate : Instr) (word : fetch_shadow w r.shadow.pc ≡ Some gate) (is_gate : is_other (Some gate) ≡ false) where
   -- the word at a row is the row's
@@ -323,8 +392,28 @@ module _ (w : World) (r : Run) (gate : Instr) (word : fetch_shadow w r.shadow.pc
       by_test true e = other at e
       by_test false e = by_gate (call-gates w.image.layout p at.row e)
 
-  -- a key is asked for, or a call made, in a call alone
-  pub within-asks : {bytes : ℕ → Option ℕ} {program : Memory} {d : Doing} {n : ℕ} → Within w bytes program d (shade_of r) n → AsksIn gate r.shadow.registers d
+  -- in RESTART
+  unboxes : {site : ℕ} {q : Regs} {base : ℕ} {words : List Instr} {n : ℕ} → At w base words (λ place rs s t m k. RestartRow w.image.layout site q place rs s t k × HasBox m site q) (shade_of r) n → Unboxes w.image.layout site q gate r
+  unboxes {site} {q} {base} {words} at = by_test (is_other (code w.image.layout words at.point.place)) refl
+    where
+      by_gate : RestartGate w.image.layout site q (code w.image.layout words at.point.place) at.point.regs at.point.priv at.point.tabs → Unboxes w.image.layout site q gate r
+      by_gate (at_end e loaded fresh x31 adr) =
+          record {
+            unhinted = same-word at (Hcall true) e;
+            registers = λ i few. at.shown.regs.at i ∙ loaded i few;
+            x31 = at.shown.priv.x31 ∙ x31;
+            adr = at.shown.priv.adr ∙ adr;
+            tables = at.point.tabs;
+            has = at.shown.tabs;
+            fresh = fresh;
+          }
+
+      by_test : (b : Bool) → is_other (code w.image.layout words at.point.place) ≡ b → Unboxes w.image.layout site q gate r
+      by_test true e = other at e
+      by_test false e = by_gate (restart-gates w.image.layout site words at.row.0 e)
+
+  -- a key is asked for in a call alone, and a call made there or in RESTART
+  pub within-asks : {bytes : ℕ → Option ℕ} {program : Memory} {d : Doing} {n : ℕ} → Within w bytes program d (shade_of r) n → AsksIn w.image.layout gate r d
   within-asks (computing p i q is c at) = other at (plain-other w.image.layout p c at.row)
   within-asks (quartering p rd imm q is f at) = other at (auipc-other w.image.layout p rd imm at.row)
   within-asks (branching p op rs1 rs2 imm q is at) = other at (branch-other w.image.layout p imm at.row)
@@ -337,18 +426,11 @@ module _ (w : World) (r : Run) (gate : Instr) (word : fetch_shadow w r.shadow.pc
   within-asks (loading p op rd rs1 imm q is at) = other at (load-other w.image.layout p op rd rs1 imm at.row)
   within-asks {program = program} (storing p op rs1 rs2 imm q t0 is at) = other at (store-other w.image.layout p op rs1 rs2 imm program t0 at.row)
   within-asks (calling p q is at before) = (refl, called at)
-  within-asks (answered p answer q is at) = tt
-  within-asks (restarting site q base words is fits at) = tt
-  within-asks (unboxing site q base words is fits at) = tt
+  within-asks (answered p answer q is at) = other at (behind-other w.image.layout p at.row)
+  within-asks (restarting site q base words is fits at) = unboxes at
+  within-asks (unboxing site q base words is fits at) = other at (restarted-other w.image.layout site q base words (record { lawful = fits.lawful; small = fits.small; place = fits.place; pad = fits.pad }) at.row)
 
 -- ---- traps
-
--- what is so of each word on an instruction
-abbrev pub Completing : World → Run → Doing → Type 0
-Completing w r (does p i q) = WordCompletes w r
-Completing w r (ends q) = WordCompletes w r
-Completing w r (restarts site q) = ⊤
-Completing w r (goes_to to q) = ⊤
 
 module _ (w : World) (a : Accepted w) (r : Run) (z : Sized (stock_of r)) (bytes : ℕ → Option ℕ) where
   abbrev l : Layout
@@ -372,8 +454,22 @@ module _ (w : World) (a : Accepted w) (r : Run) (z : Sized (stock_of r)) (bytes 
       let b : HasBlock l (plus_int p imm) = target-block w a (plus_int p imm) (pad-target row) in
       jump-no_trap w (block_at l p) (block l p (Jal rd imm)) at.code r at.point at.shown register offset (block_at l (plus_int p imm)) e to (omega (arith, b.whole))
 
-  -- each word on an instruction completes; a load wants that the known bytes are seen
-  pub within-completes : {d : Doing} {n : ℕ} → ((p rd rs1 : ℕ) (op : LoadOp) (imm : ℤ) (q : Regs) → d ≡ does p (Load op rd rs1 imm) q → AreSeen l bytes program r.shared) → Within w bytes program d (shade_of r) n → Completing w r d
+  -- the word behind the HCALL
+  answers : (p answer : ℕ) (q : Regs) (n : ℕ) → IsSite l p → (at : At w (block_at l p) (block l p Ecall) (bare (BehindRow (put 10 answer q))) (shade_of r) n) → WordCompletes w r
+  answers p answer q n is at =
+      let row : (at.point.place ≡ InBlock 7) × (at.point.regs ≡ put 10 answer q) × (n ≡ 1) = behind-is at.row in
+      let leads : Place → Regs → ℕ → Type 0 =
+      λ place rs k.
+      Led l program (block_at l p) (λ place rs s t m k. ⊥) (CallArrives p q answer at.point.tabs r.shared) (λ cause t m. ⊥) k
+      (exec_some (block_at l p) (code l (block l p Ecall) place) (record { place = place; regs = rs; priv = at.point.priv; tabs = at.point.tabs }) r.shared) in
+      let d : leads at.point.place at.point.regs n =
+      subst (λ k. leads at.point.place at.point.regs k) (sym row.2)
+      (subst (λ place. leads place at.point.regs 1) (sym row.0)
+      (subst (λ rs. leads (InBlock 7) rs 1) (sym row.1) (called_arrives l p q answer program is at.point.priv at.point.tabs r.shared at.ok))) in
+      completes at d
+
+  -- each word completes; a load wants that the known bytes are seen
+  pub within-completes : {d : Doing} {n : ℕ} → ((p rd rs1 : ℕ) (op : LoadOp) (imm : ℤ) (q : Regs) → d ≡ does p (Load op rd rs1 imm) q → AreSeen l bytes program r.shared) → Within w bytes program d (shade_of r) n → WordCompletes w r
   within-completes {n = n} sees (computing p i q is c at) = completes at (plain_leads l p i q program is c n at.point.place at.point.regs at.point.priv at.point.tabs r.shared at.ok at.row)
   within-completes {n = n} sees (quartering p rd imm q is f at) = completes at (auipc_leads l p rd imm q program is f n at.point.place at.point.regs at.point.priv at.point.tabs r.shared at.ok at.row)
   within-completes {n = n} sees (branching p op rs1 rs2 imm q is at) = completes at (branch_leads l p op rs1 rs2 imm q program is n at.point.place at.point.regs at.point.priv at.point.tabs r.shared at.ok at.row)
@@ -391,6 +487,8 @@ module _ (w : World) (a : Accepted w) (r : Run) (z : Sized (stock_of r)) (bytes 
   within-completes {n = n} sees (storing p op rs1 rs2 imm q t0 is at) =
       completes at (store_leads l p op rs1 rs2 imm q bytes program t0 is (λ b v e c g h. program-bytes l (rewritten_words w) r.own.memory z.own_memory c) n at.point.place at.point.regs at.point.priv at.point.tabs r.shared at.ok at.row)
   within-completes {n = n} sees (calling p q is at before) = completes at (any_call-leads l p q program is r.shared at.ok at.row)
-  within-completes sees (answered p answer q is at) = tt
-  within-completes sees (restarting site q base words is fits at) = tt
-  within-completes sees (unboxing site q base words is fits at) = tt
+  within-completes {n = n} sees (answered p answer q is at) = answers p answer q n is at
+  within-completes {n = n} sees (restarting site q base words is fits at) =
+      completes at (restart_leads l site q base words program is n at.point.place at.point.regs at.point.priv at.point.tabs r.shared at.ok at.row.1 at.row.0)
+  within-completes {n = n} sees (unboxing site q base words is fits at) =
+      completes at (restarted_leads l site q base words program is fits n at.point.place at.point.regs at.point.priv at.point.tabs r.shared at.ok at.row)

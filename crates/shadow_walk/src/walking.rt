@@ -7,6 +7,7 @@ ghost use Rattle.hart_mem.specs.Held.{space_of};
 ghost use Rattle.hart_step.specs.Core.{core_of};
 ghost use Rattle.run_model.specs.ShadowMoves.{is_arrival};
 ghost use Rattle.shadow_walk.specs.Walks.{BlockIsOneInstruction};
+ghost use Rattle.shadow_walk.specs.Restarts.{GoesAnew, GoesOnward, GoesBack};
 
 use crate::moves::advance;
 use hart_mem::Mem;
@@ -27,16 +28,22 @@ pub enum Walked {
 /// The most words of a walk: 72 from a restart on, 5 more for each region in use, of at most 65,536.
 const MOST_WORDS: u32 = 72 + 5 * 65_536;
 
-/// Steps a hart in the shadow's view up to the next arrival, park or call. An HKEY gets `key`. None
-/// where a word traps or too many are executed, which no code of a rewritten program does.
+/// Steps a hart in the shadow's view up to the next arrival, park or call: from word 1 of a block
+/// through its instruction, from the first word of RESTART to its call, or from the word behind an
+/// HCALL to the block behind the call. An HKEY gets `key`. None where a word traps or too many are
+/// executed, which no code of a rewritten program does.
 ///
 /// From word 1 of an instruction's block on, where `key` is that of the call in the registers, the
-/// walk is one instruction of the program, by 227 words at most.
+/// walk is one instruction of the program, by 227 words at most. From RESTART's first word it takes
+/// 63 words at most and 5 for each region in use, and from an HCALL on 19.
 pub fn walk(hart: &mut Hart, mem: &mut Mem, layout: &Layout, key: u64) -> Option<Walked>
     requires shadow { (core_of hart.old).view ≡ Shadow }
     requires lawful { IsTrue (is_lawful layout.now) }
     ensures view { (core_of hart.new).view ≡ Shadow }
     ensures block { BlockIsOneInstruction layout.now key result (core_of hart.old) (space_of mem.old) (core_of hart.new) (space_of mem.new) }
+    ensures anew { GoesAnew layout.now result (core_of hart.old) (space_of mem.old) (core_of hart.new) (space_of mem.new) }
+    ensures onward { GoesOnward layout.now result (core_of hart.old) (space_of mem.old) (core_of hart.new) (space_of mem.new) }
+    ensures back { GoesBack layout.now result (core_of hart.old) (space_of mem.old) (core_of hart.new) (space_of mem.new) }
 {
     for words in 1..=MOST_WORDS {
         match &advance(hart, mem) {
