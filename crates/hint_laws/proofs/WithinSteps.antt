@@ -1,5 +1,5 @@
 -- Each word of a shadow that follows the program leads to a row of what it is doing, to the next block, or to a park, and what it leaves of what is shared.
-use Rattle.std.proofs.Common.{◌≡◌, ℕ, zero, suc, ◌+◌, ◌*◌, ◌%◌, ◌<◌, ◌⊎◌, inl, inr, Bool, true, false, ◌&&◌, ◌==◌, nat_lt, nat_le, lit<, ℤ, List, Option, Some, None, refl, ◌∙◌, ap, sym, subst, arith}
+use Rattle.std.proofs.Common.{◌≡◌, ℕ, zero, suc, ◌+◌, ◌*◌, ◌/◌, ◌%◌, ◌<◌, ◌⊎◌, inl, inr, Bool, true, false, ◌&&◌, ◌==◌, nat_lt, nat_le, lit<, ℤ, List, Option, Some, None, refl, ◌∙◌, ap, sym, subst, arith}
 use Rattle.std.proofs.lemmas.Bool.Decides.{nat_tests}
 use Rattle.spec_base.specs.Word.{plus_int, word_of_int}
 use Rattle.spec_base.specs.Layout.{table_start, helpers_start}
@@ -18,7 +18,7 @@ use Rattle.rv_model.specs.Space.{program_byte, text_byte}
 use Rattle.rv_model.proofs.Results.{Bytes, wrap-small}
 use Rattle.code_model.specs.Blocks.{block, is_target}
 use Rattle.code_model.specs.Places.{block_at}
-use Rattle.code_model.specs.Regions.{entry_of}
+use Rattle.code_model.specs.Regions.{entry_of, slots_in_use}
 use Rattle.run_model.specs.Run.{World, Run, Answer, rewritten_words}
 use Rattle.run_model.specs.ShadowMoves.{shadow_step, fetch_shadow, is_call_word}
 use Rattle.run_model.specs.HintLaws.{is_ecall}
@@ -34,9 +34,10 @@ use Rattle.side_model.specs.Sees.{Shade, shade_of, Sees, HasRegs, Landed, goes_o
 use Rattle.side_model.specs.JumpRows.{JumpRow}
 use Rattle.side_model.proofs.Fetching.{Fetches, code-fetches}
 use Rattle.side_model.proofs.Numbers.{target-inside}
-use Rattle.rows_access.specs.Accesses.{Allows, seen, AccessFaults, load_size}
+use Rattle.rows_access.specs.Accesses.{Allows, seen, AccessFaults, load_size, store_size}
 use Rattle.rows_access.specs.LoadRows.{LoadArrives}
-use Rattle.rows_access.specs.StoreRows.{StoreArrives, StoreParks}
+use Rattle.rows_access.specs.StoreRows.{Stage, Before, Copying, Listed, Counting, Found, After, AtStage, StoresRow, StoreArrives, StoreParks, faults, full_up}
+use Rattle.rows_access.proofs.Reach.{reached}
 use Rattle.rows_access.proofs.LoadWords.{load_leads}
 use Rattle.rows_access.proofs.StoreWords.{store_leads}
 use Rattle.rows_flow.specs.Following.{IsInstruction, FlowArrives, FlowFaults, Follows}
@@ -102,15 +103,21 @@ pub data Turns (w : World) (r : Run) (to : ℕ) (new : Regs) : Doing → Type 0 
   asks_again : {site : ℕ} {q : Regs} (answer : ℕ) (rs : Regs) (t : Tabs) → fetch_shadow w r.shadow.pc ≡ Some (Hcall true) → HasRegs r.shadow.registers rs → AreLoaded 30 q rs → HasTabs w.image.layout r.shared t → IsFresh w.image.layout t
       → to ≡ site + 4 → IsAnswered q answer new → Turns w r to new (restarts site q)
 
--- why it parks
-pub data Stops (l : Layout) (cause : Park) : Doing → Type 0 where
-  flow_faults : {p : ℕ} {i : Instr} {q : Regs} → FlowFaults l p i q cause → Stops l cause (does p i q)
-  load_faults : {p : ℕ} {op : LoadOp} {rd rs1 : ℕ} {imm : ℤ} {q : Regs} → AccessFaults l (load_size op) (plus_int (get rs1 q) imm) cause → Stops l cause (does p (Load op rd rs1 imm) q)
-  store_parks : {p : ℕ} {op : StoreOp} {rs1 rs2 : ℕ} {imm : ℤ} {q : Regs} (bytes : ℕ → Option ℕ) (t0 : Tabs) → StoreParks l p op rs1 rs2 imm q bytes t0 cause → Stops l cause (does p (Store op rs1 rs2 imm) q)
-  call_parks : {p : ℕ} {q : Regs} → cause ≡ park.LogFull → Stops l cause (does p Ecall q)
-  leaves_text : {q : Regs} → GuardFaults l cause → Stops l cause (ends q)
-  last_site : {to : ℕ} {q : Regs} → cause ≡ park.Fault → to ≡ l.text_end → Stops l cause (goes_to to q)
-  exits : {d : Doing} → (cause ≡ park.Exit) ⊎ (cause ≡ park.Store) → Stops l cause d
+-- a region has no copy, and all slots are in use
+pub record IsFullFor (l : Layout) (m : Memory) (region : ℕ) : Type 0 where
+  pub uncopied : entry_of m region ≡ 0
+  pub slots : slots_in_use m ≡ l.regions
+
+-- why it parks, with this shared memory
+pub data Stops (l : Layout) (m : Memory) (cause : Park) : Doing → Type 0 where
+  flow_faults : {p : ℕ} {i : Instr} {q : Regs} → FlowFaults l p i q cause → Stops l m cause (does p i q)
+  load_faults : {p : ℕ} {op : LoadOp} {rd rs1 : ℕ} {imm : ℤ} {q : Regs} → AccessFaults l (load_size op) (plus_int (get rs1 q) imm) cause → Stops l m cause (does p (Load op rd rs1 imm) q)
+  store_parks : {p : ℕ} {op : StoreOp} {rs1 rs2 : ℕ} {imm : ℤ} {q : Regs} (bytes : ℕ → Option ℕ) (t0 : Tabs) → StoreParks l p op rs1 rs2 imm q bytes t0 cause
+      → (cause ≡ park.Regions → IsFullFor l m (plus_int (get rs1 q) imm / 256)) → Stops l m cause (does p (Store op rs1 rs2 imm) q)
+  call_parks : {p : ℕ} {q : Regs} → cause ≡ park.LogFull → Stops l m cause (does p Ecall q)
+  leaves_text : {q : Regs} → GuardFaults l cause → Stops l m cause (ends q)
+  last_site : {to : ℕ} {q : Regs} → cause ≡ park.Fault → to ≡ l.text_end → Stops l m cause (goes_to to q)
+  exits : {d : Doing} → (cause ≡ park.Exit) ⊎ (cause ≡ park.Store) → Stops l m cause d
 
 -- the word at hand is no HCALL
 abbrev pub IsQuiet : World → Run → Type 0
@@ -122,7 +129,7 @@ pub data Leads (w : World) (bytes : ℕ → Option ℕ) (program : Memory) (d : 
   turns : (k : ℕ) → k < n → (to : ℕ) (new : Regs) → Turns w r to new d → Within w bytes program (goes_to to new) h k → Inner w.image.layout h.hart.pc (goes_to to new) → Leads w bytes program d n r h
   reaches : (p base : ℕ) (s : Point) → HasBlock w.image.layout p → address base s.place ≡ block_at w.image.layout p + 4 → TableOk w.image.layout s.tabs → Sees w.image.layout base h s h.shared
       → Comes w.image.layout bytes program r.shared p s.regs s.tabs h.shared d → IsQuiet w r → Leads w bytes program d n r h
-  halts : (cause : Park) → h.hart.state ≡ Parked cause → (t : Tabs) → HasTabs w.image.layout h.shared t → TableOk w.image.layout t → Stops w.image.layout cause d → Leads w bytes program d n r h
+  halts : (cause : Park) → h.hart.state ≡ Parked cause → (t : Tabs) → HasTabs w.image.layout h.shared t → TableOk w.image.layout t → Stops w.image.layout r.shared cause d → Leads w bytes program d n r h
 
 -- ---- numbers and rows
 
@@ -245,6 +252,40 @@ restart-place (r17 s f) = refl
 restart-place (r18-47 k s less fresh x31 loaded) = refl
 restart-place (r48 s fresh loaded) = refl
 
+-- ---- parks of a store
+
+-- where a store parks since all slots are in use, they are so then, and its region has no copy
+full-when : {l : Layout} {p : ℕ} {op : StoreOp} {rs1 rs2 : ℕ} {imm : ℤ} {q : Regs} {bytes : ℕ → Option ℕ} {t0 t : Tabs} {m : Memory} {cause : Park} (program : Memory) (place : Place) (rs : Regs) (s : Priv) (n : ℕ) → cause ≡ park.Regions
+    → StoresRow l p op rs1 rs2 imm q bytes program t0 place rs s t m n → HasTabs l m t → StoreParks l p op rs1 rs2 imm q bytes t0 cause → IsFullFor l m (plus_int (get rs1 q) imm / 256)
+full-when program place rs s n e row has (faults none) = absurd (no e)
+  where
+    no : park.Fault ≡ park.Regions → ⊥
+    no e = cc
+full-when {l} {p} {op} {rs1} {rs2} {imm} {q} {bytes} {t0} {t} {m} program place rs s n e row has (full_up may none full) = by_row row
+  where
+    region : ℕ
+    region = plus_int (get rs1 q) imm / 256
+
+    at-park : t ≡ t0 → IsFullFor l m region
+    at-park same =
+        let zero : t0.entry region ≡ 0 = grind (arith, nat_tests, none) in
+        record {
+          uncopied = has.entry region (reached l (store_size op) (plus_int (get rs1 q) imm) may).region ∙ ap (λ (t : Tabs). t.entry region) same ∙ zero;
+          slots = has.count ∙ ap (λ (t : Tabs). t.count) same ∙ full;
+        }
+
+    by_stage : (stage : Stage) → AtStage l p op rs1 rs2 imm q bytes program t0 stage t m → t ≡ t0
+    by_stage Before h = h.1
+    by_stage (Copying n) h = h.2
+    by_stage Listed h = let room : t0.count < l.regions = h.2.room in absurd (omega (arith, room, full))
+    by_stage Counting h = let room : t0.count < l.regions = h.2.room in absurd (omega (arith, room, full))
+    by_stage Found h = let room : t0.count < l.regions = h.1.room none in absurd (omega (arith, room, full))
+    by_stage After h = let room : t0.count < l.regions = h.1.room none in absurd (omega (arith, room, full))
+
+    by_row : StoresRow l p op rs1 rs2 imm q bytes program t0 place rs s t m n → IsFullFor l m region
+    by_row (inl row) = at-park (by_stage Before row.1)
+    by_row (inr row) = at-park (by_stage row.0 row.2)
+
 -- ---- no HCALL
 
 -- an HCALL
@@ -331,7 +372,7 @@ module _ (w : World) (a : Accepted w) (x : Answer) (r : Run) (z : Sized (stock_o
   settles : {d : Doing} {base : ℕ} {Row' : Place → Regs → Priv → Tabs → Memory → ℕ → Type 0} {Arrives : ℕ → Regs → Tabs → Memory → Type 0} {Why : Park → Tabs → Memory → Type 0} {n : ℕ}
       → ((s : Point) (k : ℕ) → k < n → is_inner s.place ≡ true → Row' s.place s.regs s.priv s.tabs after.shared k → Sees l base after s after.shared → TableOk l s.tabs → LeadsOn d n)
       → ((p : ℕ) (s : Point) → Arrives p s.regs s.tabs after.shared → HasTabs l after.shared s.tabs → Comes l bytes program r.shared p s.regs s.tabs after.shared d × IsQuiet w r)
-      → ((cause : Park) (t : Tabs) (m : Memory) → Why cause t m → Stops l cause d)
+      → ((cause : Park) (t : Tabs) (m : Memory) → Why cause t m → Stops l r.shared cause d)
       → Landed l base Row' Arrives Why n after → LeadsOn d n
   settles {base = base} {Row'} rows arrives stops (goes_on k s m row ok less inner v) =
       rows s k less inner (subst (λ m. Row' s.place s.regs s.priv s.tabs m k) (sym v.shared) row) (record { pc = v.pc; regs = v.regs; priv = v.priv; tabs = v.tabs; shared = refl; running = v.running }) ok
@@ -535,7 +576,7 @@ module _ (w : World) (a : Accepted w) (x : Answer) (r : Run) (z : Sized (stock_o
       settles
       (λ s k less inner row v ok.
       goes k less (storing p op rs1 rs2 imm q t0 is (step-to w a x r z at s v ok row.0)) (copies (copies-kept at.point.tabs s.tabs r.shared after.shared at.shown.tabs v.tabs row.1.copies)) (inner-at s inner (inl refl) v) quiet)
-      (λ p s y has. (stores t0 y.0 (copies-kept at.point.tabs s.tabs r.shared after.shared at.shown.tabs has y.1.copies), quiet)) (λ cause t m why. store_parks bytes t0 why.0) (landed w a x r z at d)
+      (λ p s y has. (stores t0 y.0 (copies-kept at.point.tabs s.tabs r.shared after.shared at.shown.tabs has y.1.copies), quiet)) (λ cause t m why. store_parks bytes t0 why.0 (λ e. full-when program at.point.place at.point.regs at.point.priv n e at.row at.shown.tabs why.0)) (landed w a x r z at d)
   within-leads {n = n} sees (calling p q is at before) =
       let d = any_call-leads l p q program is r.shared at.ok at.row in
       settles (λ s k less inner row v ok. called p q is at before (quiet d) s k less inner row v ok) (λ p s y has. false_true (sym before ∙ y)) (λ cause t m why. call_parks why) (landed w a x r z at d)

@@ -147,10 +147,10 @@ HaltsBy l cause (ends g) = ⊤
 HaltsBy l cause (restarts site g) = (cause ≡ park.Exit) ⊎ (cause ≡ park.Store)
 HaltsBy l cause (goes_to to g) = ((cause ≡ park.Fault) × (to ≡ l.text_end)) ⊎ ((cause ≡ park.Exit) ⊎ (cause ≡ park.Store))
 
-halts-by : {l : Layout} {cause : Park} {f : Doing} → word.Stops l cause f → HaltsBy l cause f
+halts-by : {l : Layout} {m : Memory} {cause : Park} {f : Doing} → word.Stops l m cause f → HaltsBy l cause f
 halts-by (flow_faults e) = tt
 halts-by (load_faults e) = tt
-halts-by (store_parks bytes t0 why) = tt
+halts-by (store_parks bytes t0 why then) = tt
 halts-by (call_parks e) = tt
 halts-by (leaves_text e) = tt
 halts-by (last_site e to) = inl (e, to)

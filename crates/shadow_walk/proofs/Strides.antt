@@ -7,6 +7,7 @@ use Rattle.spec_base.specs.declared.park.Park.{Park}
 use Rattle.spec_base.specs.declared.park.Park.TheVariants as park
 use Rattle.rv_decode.specs.declared.instr.Instr.{Instr}
 use Rattle.rv_decode.specs.declared.instr.Instr.TheVariants.{Ecall, Hkey, Hcall, Hpark}
+use Rattle.rv_model.specs.Memory.{Memory}
 use Rattle.rv_model.specs.Registers.{reg, with_reg}
 use Rattle.rv_model.specs.Rights.{is_data}
 use Rattle.rv_model.specs.Effect.{after}
@@ -44,6 +45,7 @@ use Rattle.shadow_walk.proofs.OnTheWay.{of-sized, use-none, Walking, walking-see
 use Rattle.shadow_walk.proofs.WalkEnds.{OnInstruction, on-instruction}
 use Rattle.shadow_walk.proofs.WalkRows as asks
 use Rattle.shadow_walk.proofs.WalkRows.{within-some, is_other, Asks, AsksIn, within-asks, within-completes}
+use Rattle.hint_laws.proofs.WordFacts.{word-parks}
 use Rattle.shadow_walk.proofs.WalkWords as word
 use Rattle.shadow_walk.proofs.WalkWords.{Went, went, shown-register}
 
@@ -168,8 +170,10 @@ module _ (w : World) (a : Accepted w) {x : ℕ → Answer} {r : Run} {q : State}
       named : is_named (Hpark cause) ≡ true
       named = park-named w y.shadow.pc (Hpark cause) hpark
 
-      by_why : ParksBy w q cause ⊎ ((cause ≡ park.Exit) ⊎ (cause ≡ park.Store)) → Walks w x r q d t (Some (walked.Parked cause words))
-      by_why (inl why) = parks words few cause (subst (λ (r : Run). ShowsIn (Parked cause) w r d t) made-words shows) why
+      by_why : ParksBy w q y.shared cause ⊎ ((cause ≡ park.Exit) ⊎ (cause ≡ park.Store)) → Walks w x r q d t (Some (walked.Parked cause words))
+      by_why (inl why) =
+          let still : y.shared ≡ (words_on w x r words).shared = sym (word-parks w (x k.before) y cause (within-running k.walking.within) shows.state).shared ∙ ap (λ (r : Run). r.shared) made-words in
+          parks words few cause (subst (λ (r : Run). ShowsIn (Parked cause) w r d t) made-words shows) (subst (λ (m : Memory). ParksBy w q m cause) still why)
       by_why (inr (inl f)) = false_true (ap (λ (cause : Park). is_named (Hpark cause)) (sym f) ∙ named)
       by_why (inr (inr f)) = false_true (ap (λ (cause : Park). is_named (Hpark cause)) (sym f) ∙ named)
 
@@ -179,7 +183,7 @@ module _ (w : World) (a : Accepted w) {x : ℕ → Answer} {r : Run} {q : State}
       by_word (word.calls f) = false_true (ap is_call_word (sym hpark ∙ f))
       by_word (word.halted other state why) =
           let same : other ≡ cause = let f : Parked other ≡ Parked cause = sym state ∙ shows.state in cc in
-          by_why (subst (λ (cause : Park). ParksBy w q cause ⊎ ((cause ≡ park.Exit) ⊎ (cause ≡ park.Store))) same why)
+          by_why (subst (λ (cause : Park). ParksBy w q y.shared cause ⊎ ((cause ≡ park.Exit) ⊎ (cause ≡ park.Store))) same why)
 
   -- what an HKEY or an HCALL is asked with
   asked : (gate : Instr) → fetch_shadow w y.shadow.pc ≡ Some gate → is_other (Some gate) ≡ false → AsksIn l gate y k.doing

@@ -1,5 +1,5 @@
 -- Why a shadow parks on its way through the block of a plain state: the program traps there, or goes on outside its text; or slots or log are full.
-use Rattle.std.proofs.Common.{◌≡◌, ℕ, ◌%◌, ◌<◌, ◌⊎◌, inl, inr, Bool, true, false, ◌==◌, ℤ, Option, Some, None, refl, ◌∙◌, ap, ap₂, sym, subst, arith}
+use Rattle.std.proofs.Common.{◌≡◌, ℕ, ◌/◌, ◌%◌, ◌<◌, ◌⊎◌, inl, inr, Bool, true, false, ◌==◌, ℤ, Option, Some, None, refl, ◌∙◌, ap, ap₂, sym, subst, arith}
 use Rattle.spec_base.specs.Files.{Files}
 use Rattle.spec_base.specs.Word.{plus_int}
 use Rattle.spec_base.specs.declared.layout.Layout.{Layout}
@@ -136,12 +136,12 @@ on-instruction (instruction i g word has) plain agrees = (refl, word, has, agree
 on-instruction (text_end g e) plain agrees = e
 on-instruction (restart g e) plain agrees = true_false plain
 
-module _ (w : World) (a : Accepted w) (q : State) (going : q.exited ≡ None) where
+module _ (w : World) (a : Accepted w) (q : State) (going : q.exited ≡ None) (m : Memory) where
   abbrev l : Layout
   l = w.image.layout
 
   -- a trap
-  by-trap : (i : Instr) → instr_at w.image q ≡ Some i → (t : Trap) → effect Plain (data_rights l) q.memory q.registers q.pc i ≡ Trapped t → ParksBy w q park.Fault
+  by-trap : (i : Instr) → instr_at w.image q ≡ Some i → (t : Trap) → effect Plain (data_rights l) q.memory q.registers q.pc i ≡ Trapped t → ParksBy w q m park.Fault
   by-trap i word t e = walk.traps (completes-as w.image w.files q i (record { goes_on = going; word = word }) (Trapped t) e)
 
   -- the registers of a row that agrees are the state's
@@ -152,49 +152,53 @@ module _ (w : World) (a : Accepted w) (q : State) (going : q.exited ≡ None) wh
   same-address g imm agrees n few = ap (λ (x : ℕ). plus_int x imm) (sym ((has-registers g).at n) ∙ same-registers g agrees n few)
 
   -- an instruction that goes out of the text, or traps
-  by-flow : (p : ℕ) (i : Instr) (g : Regs) (cause : Park) → OnInstruction w q (does p i g) → FlowFaults l p i g cause → ParksBy w q cause
+  by-flow : (p : ℕ) (i : Instr) (g : Regs) (cause : Park) → OnInstruction w q (does p i g) → FlowFaults l p i g cause → ParksBy w q m cause
   by-flow p i g cause is f =
-      subst (ParksBy w q) (sym f.fault)
+      subst (ParksBy w q m) (sym f.fault)
       (by_end (effect Plain (data_rights l) q.memory (registers g) p i) refl (f.out (data_rights l) q.memory (registers g) (has-registers g)))
     where
       same : goal_of (effect Plain (data_rights l) q.memory (registers g) p i) ≡ goal_of (effect Plain (data_rights l) q.memory q.registers q.pc i)
       same = goal-alike (data_rights l) q.memory (registers g) q.registers p (same-registers g is.3) i is.2 ∙ ap (λ (pc : ℕ). goal_of (effect Plain (data_rights l) q.memory q.registers pc i)) is.0
 
-      by_end : (e : Effect) → effect Plain (data_rights l) q.memory (registers g) p i ≡ e → GoesOut l e → ParksBy w q park.Fault
+      by_end : (e : Effect) → effect Plain (data_rights l) q.memory (registers g) p i ≡ e → GoesOut l e → ParksBy w q m park.Fault
       by_end _ e (traps t) = let f : Fails (effect Plain (data_rights l) q.memory q.registers q.pc i) = fails _ (sym same ∙ ap goal_of e) in by-trap i is.1 f.t f.trap
       by_end _ e (leaves rs pc out) =
           let f : Goes (effect Plain (data_rights l) q.memory q.registers q.pc i) pc = goes-on _ pc (sym same ∙ ap goal_of e) in
           walk.leaves (record q { registers = f.rs; pc = pc }) (completes-as w.image w.files q i (record { goes_on = going; word = is.1 }) (Next f.rs pc) f.next) out
 
   -- a load
-  by-load : (p : ℕ) (op : LoadOp) (rd rs1 : ℕ) (imm : ℤ) (g : Regs) (cause : Park) → OnInstruction w q (does p (Load op rd rs1 imm) g) → AccessFaults l (load_size op) (plus_int (get rs1 g) imm) cause → ParksBy w q cause
+  by-load : (p : ℕ) (op : LoadOp) (rd rs1 : ℕ) (imm : ℤ) (g : Regs) (cause : Park) → OnInstruction w q (does p (Load op rd rs1 imm) g) → AccessFaults l (load_size op) (plus_int (get rs1 g) imm) cause → ParksBy w q m cause
   by-load p op rd rs1 imm g cause is f =
       let at : plus_int (get rs1 g) imm ≡ plus_int (reg q.registers rs1) imm = same-address g imm is.3 rs1 (is.2).1 in
       let t = (load_traps l q.memory op q.registers q.pc rd (plus_int (reg q.registers rs1) imm)).0 (subst (λ (x : ℕ). may_access l (load_size op) x ≡ false) at f.trap) in
-      subst (ParksBy w q) (sym f.fault) (by-trap (Load op rd rs1 imm) is.1 t.0 t.1)
+      subst (ParksBy w q m) (sym f.fault) (by-trap (Load op rd rs1 imm) is.1 t.0 t.1)
 
   -- a store
-  by-store : (p : ℕ) (op : StoreOp) (rs1 rs2 : ℕ) (imm : ℤ) (g : Regs) (cause : Park) (bytes : ℕ → Option ℕ) (t0 : Tabs) → OnInstruction w q (does p (Store op rs1 rs2 imm) g) → StoreParks l p op rs1 rs2 imm g bytes t0 cause → ParksBy w q cause
-  by-store p op rs1 rs2 imm g _ bytes t0 is (faults none) =
+  by-store : (p : ℕ) (op : StoreOp) (rs1 rs2 : ℕ) (imm : ℤ) (g : Regs) (cause : Park) (bytes : ℕ → Option ℕ) (t0 : Tabs) → OnInstruction w q (does p (Store op rs1 rs2 imm) g) → StoreParks l p op rs1 rs2 imm g bytes t0 cause
+      → (cause ≡ park.Regions → word.IsFullFor l m (plus_int (get rs1 g) imm / 256)) → ParksBy w q m cause
+  by-store p op rs1 rs2 imm g _ bytes t0 is (faults none) then =
       let at : plus_int (get rs1 g) imm ≡ plus_int (reg q.registers rs1) imm = same-address g imm is.3 rs1 (is.2).0 in
       let t = (store_traps l op (plus_int (reg q.registers rs1) imm) (reg q.registers rs2)).0 (subst (λ (x : ℕ). may_access l (store_size op) x ≡ false) at none) in
       by-trap (Store op rs1 rs2 imm) is.1 t.0 t.1
-  by-store p op rs1 rs2 imm g _ bytes t0 is (full_up may none full) = walk.full_up op rs1 rs2 imm is.1
+  by-store p op rs1 rs2 imm g _ bytes t0 is (full_up may none full) then =
+      let at : plus_int (get rs1 g) imm ≡ plus_int (reg q.registers rs1) imm = same-address g imm is.3 rs1 (is.2).0 in
+      let f : word.IsFullFor l m (plus_int (reg q.registers rs1) imm / 256) = subst (λ (x : ℕ). word.IsFullFor l m (x / 256)) at (then refl) in
+      walk.full_up op rs1 rs2 imm is.1 f.uncopied f.slots
 
   -- behind the text
-  by-end : q.pc ≡ l.text_end → ParksBy w q park.Fault
+  by-end : q.pc ≡ l.text_end → ParksBy w q m park.Fault
   by-end end = by_word (instr_at w.image q) refl
     where
-      by_word : (o : Option Instr) → instr_at w.image q ≡ o → ParksBy w q park.Fault
+      by_word : (o : Option Instr) → instr_at w.image q ≡ o → ParksBy w q m park.Fault
       by_word None e = walk.traps (ap (λ exited. next_unless exited w.image w.files all_taken q) going ∙ ap (λ word. completed (at_word w.image w.files all_taken q word)) e)
       by_word (Some i) e = let s : spot.InstructionStands w q i = spot.instr-stands w a q i e in absurd (omega (arith, s.below, end))
 
   -- each park; an exit, or a look that fails, is told by another cause
-  pub parks-by : (cause : Park) {d : Doing} → OnInstruction w q d → word.Stops l cause d → ParksBy w q cause ⊎ ((cause ≡ park.Exit) ⊎ (cause ≡ park.Store))
+  pub parks-by : (cause : Park) {d : Doing} → OnInstruction w q d → word.Stops l m cause d → ParksBy w q m cause ⊎ ((cause ≡ park.Exit) ⊎ (cause ≡ park.Store))
   parks-by cause is (flow_faults {p} {i} {q = g} f) = inl (by-flow p i g cause is f)
   parks-by cause is (load_faults {p} {op} {rd} {rs1} {imm} {q = g} f) = inl (by-load p op rd rs1 imm g cause is f)
-  parks-by cause is (store_parks {p} {op} {rs1} {rs2} {imm} {q = g} bytes t0 why) = inl (by-store p op rs1 rs2 imm g cause bytes t0 is why)
-  parks-by cause is (call_parks e) = inl (subst (ParksBy w q) (sym e) (walk.log_full is.1))
-  parks-by cause is (leaves_text f) = inl (subst (ParksBy w q) (sym f.fault) (by-end is))
+  parks-by cause is (store_parks {p} {op} {rs1} {rs2} {imm} {q = g} bytes t0 why then) = inl (by-store p op rs1 rs2 imm g cause bytes t0 is why then)
+  parks-by cause is (call_parks e) = inl (subst (ParksBy w q m) (sym e) (walk.log_full is.1))
+  parks-by cause is (leaves_text f) = inl (subst (ParksBy w q m) (sym f.fault) (by-end is))
   parks-by cause is (last_site e to) = absurd is
   parks-by cause is (exits e) = inr e

@@ -57,7 +57,7 @@ pub data Went (w : World) (q : State) (y next : Run) (n : ℕ) : Type 0 where
   still : (d : Doing) (k : ℕ) → k < n → is_arrival w.image.layout next.shadow.pc ≡ false → Walking w q next d k → Went w q y next n
   came : (to : State) → next_state w.image w.files all_taken q ≡ Some to → is_arrival w.image.layout next.shadow.pc ≡ true → StandsAt w next to → next.shadow.state ≡ Running → Went w q y next n
   calls : fetch_shadow w y.shadow.pc ≡ Some (Hcall false) → Went w q y next n
-  halted : (cause : Park) → next.shadow.state ≡ Parked cause → ParksBy w q cause ⊎ ((cause ≡ park.Exit) ⊎ (cause ≡ park.Store)) → Went w q y next n
+  halted : (cause : Park) → next.shadow.state ≡ Parked cause → ParksBy w q y.shared cause ⊎ ((cause ≡ park.Exit) ⊎ (cause ≡ park.Store)) → Went w q y next n
 
 -- a register that is written in two ways
 pub shown-register : (rs new : Registers) (g : Regs) → HasRegs rs g → HasRegs new g → (i : ℕ) → 0 < i → rs i ≡ new i
@@ -237,4 +237,4 @@ module _ (w : World) (a : Accepted w) (x : Answer) {q : State} {y : Run} {d : Do
           })
       by_leads (turns j less to new turn within place) = turned turn (on-instruction k.doing k.plain k.agrees)
       by_leads (reaches p base pt block place ok shown comes quiet) = arrived {p = p} {base = base} {pt = pt} (record { block = block; place = place; ok = ok; shown = shown }) comes quiet
-      by_leads (halts cause state t has ok stops) = halted cause state (parks-by w a q k.goes_on cause (on-instruction k.doing k.plain k.agrees) stops)
+      by_leads (halts cause state t has ok stops) = halted cause state (parks-by w a q k.goes_on y.shared cause (on-instruction k.doing k.plain k.agrees) stops)

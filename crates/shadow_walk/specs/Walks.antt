@@ -1,5 +1,6 @@
 -- What a walk of the shadow through one block comes to: the block's run is one instruction of the plain program (this project's own).
-use Rattle.std.specs.Prelude.{ℕ, zero, suc, ℤ, ◌+◌, ◌^◌, ◌≡◌, ◌<◌, ◌≤◌, false, length, Option, Some, None, IsTrue, ⊤, List, [], ◌∷◌}
+use Rattle.std.specs.Prelude.{ℕ, zero, suc, ℤ, ◌+◌, ◌/◌, ◌^◌, ◌≡◌, ◌<◌, ◌≤◌, false, length, Option, Some, None, IsTrue, ⊤, List, [], ◌∷◌}
+use Rattle.spec_base.specs.Word.{plus_int}
 use Rattle.spec_base.specs.declared.layout.Layout.{Layout}
 use Rattle.spec_base.specs.declared.note.ShadowState.TheVariants.{Parked}
 use Rattle.spec_base.specs.declared.park.Park.{Park}
@@ -7,12 +8,14 @@ use Rattle.spec_base.specs.declared.park.Park.TheVariants as park
 use Rattle.rv_decode.specs.declared.instr.Instr.TheVariants.{Store, Ecall, Hcall}
 use Rattle.rv_decode.specs.declared.instr.StoreOp.{StoreOp}
 use Rattle.rv_model.specs.Rights.{is_data, in_text}
+use Rattle.rv_model.specs.Memory.{Memory}
+use Rattle.rv_model.specs.Registers.{reg}
 use Rattle.rv_model.specs.Space.{Space}
 use Rattle.program_model.specs.Descriptors.{Descriptor, Free, Null, Out, Err, File, Descriptors}
 use Rattle.program_model.specs.Calls.{key_of}
 use Rattle.program_model.specs.PlainRun.{State, all_taken, next_state, plan_of}
 use Rattle.code_model.specs.Places.{block_at}
-use Rattle.code_model.specs.Regions.{shadowed}
+use Rattle.code_model.specs.Regions.{entry_of, slots_in_use, shadowed}
 use Rattle.run_model.specs.Run.{World, Run, Answer}
 use Rattle.run_model.specs.ShadowMoves.{fetch_shadow, shadow_step}
 use Rattle.run_model.specs.OwnLaws.{Accepted}
@@ -74,12 +77,13 @@ pub record StandsAt (w : World) (r : Run) (q : State) : Type 0 where
 
 -- ---- a walk
 
--- why a walk parks: by Fault where the program traps, or goes on outside the text; by Regions at a store alone, and by LogFull at a call alone. It parks by no other cause
-pub data ParksBy (w : World) (q : State) : Park → Type 0 where
-  traps : next_state w.image w.files all_taken q ≡ None → ParksBy w q park.Fault
-  leaves : (next : State) → next_state w.image w.files all_taken q ≡ Some next → in_text w.image.layout next.pc ≡ false → ParksBy w q park.Fault
-  full_up : (op : StoreOp) (rs1 rs2 : ℕ) (imm : ℤ) → instr_at w.image q ≡ Some (Store op rs1 rs2 imm) → ParksBy w q park.Regions
-  log_full : instr_at w.image q ≡ Some Ecall → ParksBy w q park.LogFull
+-- why a walk parks, with this shared memory: by Fault where the program traps, or goes on outside the text; by Regions at a store alone, whose region has no copy, with all slots in use; and by LogFull at a call alone. It parks by no other cause
+pub data ParksBy (w : World) (q : State) (shared : Memory) : Park → Type 0 where
+  traps : next_state w.image w.files all_taken q ≡ None → ParksBy w q shared park.Fault
+  leaves : (next : State) → next_state w.image w.files all_taken q ≡ Some next → in_text w.image.layout next.pc ≡ false → ParksBy w q shared park.Fault
+  full_up : (op : StoreOp) (rs1 rs2 : ℕ) (imm : ℤ) → instr_at w.image q ≡ Some (Store op rs1 rs2 imm) → entry_of shared (plus_int (reg q.registers rs1) imm / 256) ≡ 0 → slots_in_use shared ≡ w.image.layout.regions
+      → ParksBy w q shared park.Regions
+  log_full : instr_at w.image q ≡ Some Ecall → ParksBy w q shared park.LogFull
 
 -- the run after so many words of its shadow, where the outside answers so at each
 unfoldable pub words_on : World → (ℕ → Answer) → Run → ℕ → Run
@@ -90,7 +94,7 @@ words_on w x r (suc n) = shadow_step w (x n) (words_on w x r n)
 pub data Walks (w : World) (x : ℕ → Answer) (r : Run) (q : State) (core : Core) (space : Space) : Option Walked → Type 0 where
   arrives : (n : ℕ) → n ≤ 227 → ShowsShadow w (words_on w x r n) core space → (next : State) → next_state w.image w.files all_taken q ≡ Some next → StandsAt w (words_on w x r n) next
       → Walks w x r q core space (Some (walked.Arrived n))
-  parks : (n : ℕ) → n ≤ 227 → (cause : Park) → ShowsIn (Parked cause) w (words_on w x r n) core space → ParksBy w q cause → Walks w x r q core space (Some (walked.Parked cause n))
+  parks : (n : ℕ) → n ≤ 227 → (cause : Park) → ShowsIn (Parked cause) w (words_on w x r n) core space → ParksBy w q (words_on w x r n).shared cause → Walks w x r q core space (Some (walked.Parked cause n))
   calls : (n : ℕ) → n ≤ 227 → ShowsShadow w (words_on w x r n) core space → fetch_shadow w (words_on w x r n).shadow.pc ≡ Some (Hcall false) → instr_at w.image q ≡ Some Ecall → HasState w (words_on w x r n) q
       → Walks w x r q core space (Some (walked.Call false n))
 
