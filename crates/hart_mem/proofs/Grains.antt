@@ -1,5 +1,5 @@
 -- The parts of a memory begin and end at multiples of 4, so that an aligned access is decided by its first and its last byte.
-use Rattle.std.proofs.Common.{◌≡◌, ℕ, ◌+◌, ◌-◌, ◌*◌, ◌/◌, ◌%◌, ◌<◌, ◌≤◌, Bool, true, false, not, ◌&&◌, ◌||◌, IsTrue, nat_le, nat_lt, refl, ap, arith}
+use Rattle.std.proofs.Common.{◌≡◌, ℕ, ◌+◌, ◌-◌, ◌*◌, ◌/◌, ◌%◌, ◌<◌, ◌≤◌, Bool, true, false, not, ◌&&◌, ◌||◌, IsTrue, nat_le, nat_lt, refl, ap, arith, sym, ◌∙◌}
 use Rattle.std.proofs.lemmas.Bool.Decides.{nat_tests}
 use Rattle.spec_base.specs.Layout.{range_end, image_limit, is_lawful}
 use Rattle.spec_base.specs.declared.layout.Version.{Version}
@@ -135,3 +135,23 @@ loads_all v l lawful = all_from-width (rights_of v l).load (λ a b e. load_grain
 
 pub stores_all : (v : View) (l : Layout) → IsTrue (is_lawful l) → (a n : ℕ) → IsWidth n → a % n ≡ 0 → all_from (rights_of v l).store a n ≡ ((rights_of v l).store a && (rights_of v l).store (a + (n - 1)))
 stores_all v l lawful = all_from-width (rights_of v l).store (λ a b e. store_grain a b e l lawful v)
+
+-- the data from an address on that is aligned: the range ends at a multiple of the width
+pub data_outside : (l : Layout) → IsTrue (is_lawful l) → (a n : ℕ) → IsWidth n → a % n ≡ 0 → in_range l a ≡ false → all_from (is_data l) a n ≡ false
+data_outside l lawful a n w e out = loads_all Plain l lawful a n w e ∙ (let o : is_data l a ≡ false = cc in cc)
+
+in_range_last : (l : Layout) (a n : ℕ) → IsWidth n → a % n ≡ 0 → in_range l a ≡ true → in_range l (a + (n - 1)) ≡ true
+in_range_last l a _ one e h = grind (arith, nat_tests)
+in_range_last l a _ two e h = grind (arith, nat_tests, range_end-pages l.version)
+in_range_last l a _ four e h = grind (arith, nat_tests, range_end-pages l.version)
+in_range_last l a _ eight e h = grind (arith, nat_tests, range_end-pages l.version)
+
+module _ (l : Layout) (lawful : IsLawful l) where
+  text_apart : (a n : ℕ) → IsWidth n → a % n ≡ 0 → (nat_lt (a + (n - 1)) l.text_start || nat_le l.text_end a) ≡ (not (in_text l a) && not (in_text l (a + (n - 1))))
+  text_apart a _ one e = grind (arith, nat_tests, lawful.start, lawful.end, lawful.some)
+  text_apart a _ two e = grind (arith, nat_tests, lawful.start, lawful.end, lawful.some)
+  text_apart a _ four e = grind (arith, nat_tests, lawful.start, lawful.end, lawful.some)
+  text_apart a _ eight e = grind (arith, nat_tests, lawful.start, lawful.end, lawful.some)
+
+pub data_inside : (l : Layout) → IsTrue (is_lawful l) → (a n : ℕ) → IsWidth n → a % n ≡ 0 → in_range l a ≡ true → (nat_lt (a + (n - 1)) l.text_start || nat_le l.text_end a) ≡ all_from (is_data l) a n
+data_inside l lawful a n w e inside = text_apart l (lawful_is l lawful) a n w e ∙ (let last : in_range l (a + (n - 1)) ≡ true = in_range_last l a n w e inside in cc) ∙ sym (loads_all Plain l lawful a n w e)

@@ -56,3 +56,27 @@ byte_more n k v b e low byte =
     let q : 2 ^ (8 * n + 8) ≡ 2 ^ (8 * n) * 2 ^ 8 = pow-add 2 (8 * n) 8 in
     let s : 8 * k ≡ 8 * n + 8 = omega arith in
     rw s (omega arith)
+
+-- ---- a number of a fixed width
+
+-- the last byte of a number stands for itself times a power of 256
+pub loaded_last : (m : Memory) (n a : ℕ) → loaded m a (suc n) ≡ loaded m a n + m (a + n) * 256 ^ n
+unfolding loaded
+loaded_last m zero a = grind arith
+loaded_last m (suc n) a =
+    let rest : loaded m (a + 1) (suc n) ≡ loaded m (a + 1) n + m (a + 1 + n) * 256 ^ n = loaded_last m n (a + 1) in
+    let e : m (a + 1 + n) ≡ m (a + suc n) = grind arith in
+    let p : 256 ^ suc n ≡ 256 * 256 ^ n = omega arith in
+    rw (p, rest, e) (omega arith)
+
+pub loaded_two : (m : Memory) (a : ℕ) → m a + m (a + 1) * 256 ≡ loaded m a 2
+loaded_two m a = grind (arith, loaded_last m 1 a, loaded_last m 0 a, loaded_none m 0 a refl)
+
+pub loaded_four : (m : Memory) (a : ℕ) → m a + m (a + 1) * 256 + m (a + 2) * 65536 + m (a + 3) * 16777216 ≡ loaded m a 4
+loaded_four m a = grind (arith, loaded_last m 3 a, loaded_last m 2 a, loaded_two m a)
+
+pub loaded_eight : (m : Memory) (a : ℕ) → m a + m (a + 1) * 256 + m (a + 2) * 65536 + m (a + 3) * 16777216 + m (a + 4) * 4294967296 + m (a + 5) * 1099511627776 + m (a + 6) * 281474976710656 + m (a + 7) * 72057594037927936 ≡ loaded m a 8
+loaded_eight m a = grind (arith, loaded_last m 7 a, loaded_last m 6 a, loaded_last m 5 a, loaded_last m 4 a, loaded_four m a)
+
+pub loaded_byte : (m : Memory) (a : ℕ) → m a ≡ loaded m a 1
+loaded_byte m a = grind (arith, loaded_last m 0 a, loaded_none m 0 a refl)

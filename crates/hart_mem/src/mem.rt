@@ -1,6 +1,7 @@
 //! The memory of a hart.
 
-ghost use Rattle.std.specs.Prelude.{ℕ, ◌≡◌, ◌+◌, ◌-◌, ◌*◌, ◌/◌, ◌%◌, ◌^◌, ◌<◌, ◌≤◌, ◌&&◌, not, ◌==◌, IsTrue, IsOk, true, false, length, vec_len, Err, IfOk, OnOk, OnErr};
+ghost use Rattle.rv_decode.specs.Instruction.{instr_of};
+ghost use Rattle.std.specs.Prelude.{option_map, ℕ, ◌≡◌, ◌+◌, ◌-◌, ◌*◌, ◌/◌, ◌%◌, ◌^◌, ◌<◌, ◌≤◌, ◌&&◌, not, ◌==◌, IsTrue, IsOk, true, false, length, vec_len, Err, IfOk, OnOk, OnErr};
 ghost use Rattle.spec_base.specs.Word.{byte_of};
 ghost use Rattle.spec_base.specs.Layout.{range_end, is_lawful, helper_words, stub_words};
 ghost use Rattle.rv_model.specs.Memory.{all_from, loaded, written};
@@ -12,9 +13,10 @@ ghost use Rattle.hart_mem.specs.Paged.{pages_touched};
 ghost use Rattle.hart_mem.specs.Held.{IsOffText, data_byte, empty_space, lacks_frame, load_answer, shadow_words, most_frames, space_of, spare_of, store_answer, text_words};
 
 use crate::access::{Access, StoreFault, Width};
-use crate::code::{code_at, word_at};
+use crate::code::Code;
 use crate::page_map::PageMap;
 use crate::rights::{is_data, is_in_text, may_load_all, may_store_all, page_count, place_of};
+use rv_decode::Instr;
 use rv_model::Bytes;
 use spec_base::{
     HELPER_WORDS, HELPERS_START, Layout, NoMemory, SHADOW_START, STUB_START, STUB_WORDS, Version,
@@ -30,11 +32,12 @@ use std::marker::Model;
 /// its spare pages.
 #[derive(Drop)]
 pub struct Mem {
+    alloc: Global,
     layout: Layout,
-    text: Vec<u32>,
-    shadow: Vec<u32>,
-    helpers: Vec<u32>,
-    stub: Vec<u32>,
+    text: Code,
+    shadow: Code,
+    helpers: Code,
+    stub: Code,
     pages: PageMap,
 }
 
@@ -47,19 +50,19 @@ impl Model for Mem {
 
     ghost view = { λ m. record {
       layout = m.layout;
-      text = m.text.items;
-      shadow = m.shadow.items;
-      helpers = m.helpers.items;
-      stub = m.stub.items;
+      text = m.text;
+      shadow = m.shadow;
+      helpers = m.helpers;
+      stub = m.stub;
       pages = m.pages;
     } };
 
     ghost invariant = { λ m. IsWhole (record {
       layout = m.layout;
-      text = m.text.items;
-      shadow = m.shadow.items;
-      helpers = m.helpers.items;
-      stub = m.stub.items;
+      text = m.text;
+      shadow = m.shadow;
+      helpers = m.helpers;
+      stub = m.stub;
       pages = m.pages;
     }) };
 }
@@ -87,12 +90,14 @@ impl Mem {
         let mut pages = PageMap::new(alloc, count, most_frames(layout.version))?;
         let first = (layout.version.range_end() / 4096) as usize;
         pages.obtain_all(first, count)?;
+        let text = Code::new(alloc, text)?;
         Ok(Mem {
+            alloc,
             layout,
             text,
-            shadow: Vec::new(alloc),
-            helpers: Vec::new(alloc),
-            stub: Vec::new(alloc),
+            shadow: Code::none(alloc),
+            helpers: Code::none(alloc),
+            stub: Code::none(alloc),
             pages,
         })
     }
@@ -127,32 +132,44 @@ impl Mem {
     /// Gives the emitted code: 16 words of shadow text for each word of the text and 16 for the
     /// guard block, the helpers, and the stub.
     #[tactic(auto, unfolding(crate::specs::Held::space_of, crate::specs::Held::spare_of))]
-    pub fn set_code(&mut self, shadow: Vec<u32>, helpers: Vec<u32>, stub: Vec<u32>)
+    pub fn set_code(
+        &mut self,
+        shadow: Vec<u32>,
+        helpers: Vec<u32>,
+        stub: Vec<u32>,
+    ) -> Result<(), NoMemory>
         requires shadow { vec_len shadow ≡ shadow_words (space_of self.old).layout }
         requires helpers { vec_len helpers ≡ helper_words }
         requires stub { vec_len stub ≡ stub_words }
-        ensures space { space_of self.new ≡ record (space_of self.old) { shadow = shadow.items; helpers = helpers.items; stub = stub.items } }
+        ensures ok { OnOk result (space_of self.new ≡ record (space_of self.old) { shadow = shadow.items; helpers = helpers.items; stub = stub.items }) }
+        ensures err { OnErr result (self.new ≡ self.old) }
         ensures spare { spare_of self.new ≡ spare_of self.old }
     {
+        let shadow = Code::new(self.alloc, shadow)?;
+        let helpers = Code::new(self.alloc, helpers)?;
+        let stub = Code::new(self.alloc, stub)?;
         self.shadow = shadow;
         self.helpers = helpers;
         self.stub = stub;
+        Ok(())
     }
 
-    /// The word at pc of the view's code. None exactly where pc is outside it or no multiple of 4.
+    /// The instruction of the word at pc of the view's code. None exactly where pc is outside it or
+    /// no multiple of 4.
     #[tactic(auto, unfolding(crate::specs::Held::space_of, crate::specs::Held::spare_of))]
-    pub fn fetch(&self, view: View, pc: u64) -> Option<u32>
-        ensures { result ≡ word_at view (space_of self.now) pc }
+    #[inline(always)]
+    pub fn instr_at(&self, view: View, pc: u64) -> Option<Instr>
+        ensures { result ≡ option_map instr_of (word_at view (space_of self.now) pc) }
     {
         match view {
-            View::Plain | View::Program => word_at(&self.text, self.layout.text_start, pc),
-            View::Stub => code_at(&self.stub, STUB_WORDS, STUB_START, pc),
+            View::Plain | View::Program => self.text.instr_at(self.layout.text_start, pc),
+            View::Stub => self.stub.instr_or_zero_at(STUB_WORDS, STUB_START, pc),
             View::Shadow => {
                 if HELPERS_START <= pc {
-                    code_at(&self.helpers, HELPER_WORDS, HELPERS_START, pc)
+                    self.helpers.instr_or_zero_at(HELPER_WORDS, HELPERS_START, pc)
                 } else {
-                    let count = 16 * (self.text.len() + 1);
-                    code_at(&self.shadow, count, SHADOW_START, pc)
+                    let count = 16 * (self.text.words().len() + 1);
+                    self.shadow.instr_or_zero_at(count, SHADOW_START, pc)
                 }
             }
         }
@@ -161,6 +178,7 @@ impl Mem {
     /// The number at an address, each byte of which is below 256. `Unaligned` exactly where the
     /// address is no multiple of the width, else `Out` exactly where a byte isn't one that the view
     /// loads.
+    #[inline(always)]
     pub fn load(&self, view: View, address: u64, width: Width) -> Result<u64, Access>
         ensures value { result ≡ load_answer view (space_of self.now) address (width_bytes width) }
         ensures bound { IfOk result (λ number. number < 2 ^ (8 * width_bytes width)) }
@@ -177,6 +195,7 @@ impl Mem {
     }
 
     // The number of bytes that the view loads.
+    #[inline(always)]
     fn number(&self, view: View, address: u64, size: u64) -> u64
         requires size { IsWidth size }
         requires aligned { address % size ≡ 0 }
@@ -192,6 +211,7 @@ impl Mem {
     }
 
     // As `number`, for the shadow, which loads the text too.
+    #[inline(never)]
     fn shadow_number(&self, address: u64, size: u64) -> u64
         requires size { IsWidth size }
         requires aligned { address % size ≡ 0 }
@@ -210,6 +230,7 @@ impl Mem {
     }
 
     // As `number`, for bytes of which none is of the text.
+    #[inline(always)]
     fn page_number(&self, view: View, address: u64, size: u64) -> u64
         requires size { IsWidth size }
         requires aligned { address % size ≡ 0 }
@@ -224,6 +245,7 @@ impl Mem {
     }
 
     // The number of bytes of the program range, of which some are of the text.
+    #[inline(never)]
     fn text_number(&self, address: u64, size: u64) -> u64
         requires size { size ≤ 8 }
         requires inside { (i : ℕ) → i < size → IsTrue (in_range self.now.layout (address + i)) }
@@ -246,7 +268,7 @@ impl Mem {
     {
         if is_in_text(&self.layout, address) {
             let offset = address - self.layout.text_start;
-            byte_of(self.text[(offset / 4) as usize], offset % 4)
+            byte_of(self.text.word((offset / 4) as usize), offset % 4)
         } else {
             self.pages.load(address as usize, 1) as u8
         }
@@ -256,6 +278,7 @@ impl Mem {
     /// exactly where the page of the program range has no frame and none is spare. A store that
     /// is refused changes nothing, and one of the shadow takes no frame.
     #[tactic(auto, unfolding(crate::specs::Held::space_of))]
+    #[inline(always)]
     pub fn store(
         &mut self,
         view: View,
@@ -285,6 +308,7 @@ impl Mem {
 
     // Stores the lowest bytes of a value that the view may store. False, and nothing changes,
     // where their page has no frame and none is spare.
+    #[inline(always)]
     fn put(&mut self, view: View, address: u64, size: u64, value: u64) -> bool
         requires size { IsWidth size }
         requires aligned { address % size ≡ 0 }
@@ -301,7 +325,7 @@ impl Mem {
             return false;
         }
         let bytes = value.to_le_bytes();
-        self.pages.write(place, &bytes[..size as usize]);
+        self.pages.write_first(place, &bytes, size as usize);
         true
     }
 

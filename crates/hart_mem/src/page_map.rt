@@ -1,8 +1,9 @@
 //! A flat memory in pages: each page has a frame of a pool, or none and reads as zero.
 
-ghost use Rattle.std.specs.Prelude.{ℕ, ◌≡◌, ◌≢◌, ◌+◌, ◌-◌, ◌*◌, ◌/◌, ◌%◌, ◌^◌, ◌<◌, ◌≤◌, ◌||◌, ◌⊎◌, IsTrue, nat_lt, if◌then◌else◌, true, false, length, Err, IfOk, OnOk, OnErr};
+ghost use Rattle.std.specs.Prelude.{ℕ, ◌≡◌, ◌≢◌, ◌+◌, ◌-◌, ◌*◌, ◌/◌, ◌%◌, ◌^◌, ◌<◌, ◌≤◌, ◌||◌, ◌⊎◌, IsTrue, nat_lt, if◌then◌else◌, true, false, length, take, Err, IfOk, OnOk, OnErr};
 ghost use Rattle.page_pool.specs.Frames.{reserved};
 ghost use Rattle.rv_model.specs.Memory.{loaded, written};
+ghost use Rattle.hart_mem.specs.Access.{IsWidth};
 ghost use Rattle.hart_mem.specs.Paged.{flat, is_held, IsEmpty, AreHeld, KeepsPages, end_page, pages_touched};
 
 use crate::number::number;
@@ -88,6 +89,7 @@ impl PageMap {
     }
 
     /// Gives a page a frame, where it has none. False where none is spare.
+    #[inline(always)]
     pub fn hold(&mut self, page: usize) -> bool
         requires { page < length self.old.table }
         ensures answer { result ≡ (is_held self.old page || nat_lt 0 self.old.pool.spare) }
@@ -108,8 +110,9 @@ impl PageMap {
     }
 
     /// The number of the `size` bytes from a place on, which lie in one page.
+    #[inline(always)]
     pub fn load(&self, place: usize, size: usize) -> u64
-        requires size { size ≤ 8 }
+        requires size { IsWidth size }
         requires inside { place / 4096 < length self.now.table }
         requires fits { place % 4096 + size ≤ 4096 }
         ensures value { result ≡ loaded (flat self.now) place size }
@@ -122,7 +125,27 @@ impl PageMap {
         }
     }
 
+    /// Writes the first `size` of eight bytes from a place on, all in one page, which has a frame.
+    #[inline(always)]
+    pub fn write_first(&mut self, place: usize, bytes: &[u8], size: usize)
+        requires size { IsWidth size }
+        requires room { length bytes.now ≡ 8 }
+        requires held { IsTrue (is_held self.old (place / 4096)) }
+        requires fits { place % 4096 + size ≤ 4096 }
+        ensures bytes { flat self.new ≡ written (flat self.old) place (take size bytes.now) }
+        ensures table { self.new.table ≡ self.old.table }
+        ensures spare { self.new.pool.spare ≡ self.old.pool.spare }
+    {
+        match size {
+            1 => self.write(place, &bytes[..1]),
+            2 => self.write(place, &bytes[..2]),
+            4 => self.write(place, &bytes[..4]),
+            _ => self.write(place, &bytes[..8]),
+        }
+    }
+
     /// Writes bytes from a place on, all in one page, which has a frame.
+    #[inline(always)]
     pub fn write(&mut self, place: usize, bytes: &[u8])
         requires held { IsTrue (is_held self.old (place / 4096)) }
         requires fits { place % 4096 + length bytes.now ≤ 4096 }

@@ -23,6 +23,7 @@ pub(crate) fn offset(word: u64, by: i64) -> u64
 }
 
 /// The result of an operation on two registers.
+#[inline(always)]
 pub(crate) fn reg_result(op: RegOp, x: u64, y: u64) -> u64
     ensures { result ≡ reg_result op x y }
 {
@@ -114,6 +115,7 @@ fn remainder(x: u64, y: u64) -> u64
 }
 
 /// The result of an operation on the low words of two registers.
+#[inline(always)]
 pub(crate) fn reg_w_result(op: RegWOp, x: u64, y: u64) -> u64
     ensures { result ≡ reg_w_result op x y }
 {
@@ -180,6 +182,7 @@ fn word_remainder(x: u32, y: u32) -> u64
 }
 
 /// The result of an operation on a register and an immediate.
+#[inline(always)]
 pub(crate) fn imm_result(op: ImmOp, x: u64, imm: i64) -> u64
     ensures { result ≡ imm_result op x imm }
 {
@@ -187,6 +190,7 @@ pub(crate) fn imm_result(op: ImmOp, x: u64, imm: i64) -> u64
 }
 
 /// The operation on two registers that an operation on an immediate is.
+#[inline(always)]
 fn register_form(op: ImmOp) -> RegOp
     ensures { result ≡ register_form op }
 {
@@ -204,6 +208,7 @@ fn register_form(op: ImmOp) -> RegOp
 }
 
 /// The result of an operation on the low word of a register and an immediate.
+#[inline(always)]
 pub(crate) fn imm_w_result(op: ImmWOp, x: u64, imm: i64) -> u64
     ensures { result ≡ imm_w_result op x imm }
 {
@@ -211,6 +216,7 @@ pub(crate) fn imm_w_result(op: ImmWOp, x: u64, imm: i64) -> u64
 }
 
 /// The operation on the low words of two registers that an operation on an immediate is.
+#[inline(always)]
 fn register_w_form(op: ImmWOp) -> RegWOp
     ensures { result ≡ register_w_form op }
 {
@@ -223,6 +229,7 @@ fn register_w_form(op: ImmWOp) -> RegWOp
 }
 
 /// Whether a branch is taken.
+#[inline(always)]
 pub(crate) fn is_taken(op: BranchOp, x: u64, y: u64) -> bool
     ensures { result ≡ is_taken op x y }
 {
@@ -237,6 +244,7 @@ pub(crate) fn is_taken(op: BranchOp, x: u64, y: u64) -> bool
 }
 
 /// What a load puts into its register, of the number of its bytes.
+#[inline(always)]
 pub(crate) fn extended(op: LoadOp, n: u64) -> u64
     requires { n < 2 ^ (8 * load_width op) }
     ensures { result ≡ extended op n }

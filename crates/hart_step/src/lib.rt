@@ -5,6 +5,7 @@ mod arithmetic;
 mod event;
 mod hart;
 mod stepping;
+mod running;
 #[cfg(test)]
 mod tests;
 #[cfg(test)]
@@ -13,3 +14,4 @@ mod vectors;
 pub use event::Event;
 pub use hart::Hart;
 pub use stepping::step;
+pub use running::steps;

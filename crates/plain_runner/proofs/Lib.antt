@@ -3,3 +3,4 @@ mod Memories
 mod CallLemmas
 mod Steps
 mod RunLogs
+mod Stretches

@@ -267,3 +267,12 @@ other-Shows p s c sp f shows core space other nd ne nt came = absurd came
 pub call-Shows : (p : Program) (s : State) (c : Core) (sp : Space) (f : Descriptors) → Shows p c sp f s → (core : Core) (space : Space)
     → StepsTo p s c sp f event.Ecall core space → Shows p core space f s
 call-Shows p s c sp f shows core space stepped_to = same-Shows p s c sp f shows core space stepped_to.1 stepped_to.2
+
+-- in the plain view an event that isn't the completion of an instruction leaves hart and memory
+pub stopped-Shows : (p : Program) (s : State) (c : Core) (sp : Space) (f : Descriptors) → Shows p c sp f s → (core : Core) (space : Space) (told : Event)
+    → told ≢ event.Done → StepsTo p s c sp f told core space → Shows p core space f s
+stopped-Shows p s c sp f shows core space event.Done nd came = absurd (nd refl)
+stopped-Shows p s c sp f shows core space event.Ecall nd came = same-Shows p s c sp f shows core space came.1 came.2
+stopped-Shows p s c sp f shows core space (event.Trap cause) nd came = same-Shows p s c sp f shows core space came.1 came.2
+stopped-Shows p s c sp f shows core space event.NoMemory nd came = same-Shows p s c sp f shows core space came.0 came.1
+stopped-Shows p s c sp f shows core space other nd came = absurd came

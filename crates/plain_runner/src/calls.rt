@@ -33,6 +33,7 @@ fn plan(hart: &Hart, mem: &Mem, files: &Files) -> CallPlan
 }
 
 /// Performs the call that the registers ask for, with a buffer of 17 blocks. 17 pages are spare.
+#[inline(never)]
 pub fn perform<S: Store, O: Sink, E: Sink>(
     hart: &mut Hart,
     mem: &mut Mem,

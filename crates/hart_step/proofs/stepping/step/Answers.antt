@@ -9,4 +9,4 @@ pub returns-in-Some-clause-starved : goal.returns-in-Some-clause-starved
 returns-in-Some-clause-starved c e =
     let h = core_of c.args.hart.now in
     let s = space_of c.args.mem.now in
-    starved h s h.view c.args.mem.now (effect_of h s c.decode.result) (sym e ∙ ap (λ (o : Outcome). o.event) c.execute.ensures.outcome)
+    starved h s h.view c.args.mem.now (effect_of h s c.in-Some.instr) (sym e ∙ ap (λ (o : Outcome). o.event) c.execute.ensures.outcome)

@@ -6,8 +6,8 @@ use Rattle.hart_mem.proofs.mem.Mem.new.Goals as goal
 
 pub returns-clause-space : goal.returns-clause-space
 returns-clause-space c =
-    let made : Held = record { layout = c.args.layout; text = c.args.text.items; shadow = c.new-2.result.items; helpers = c.new-3.result.items; stub = c.new-4.result.items; pages = c.obtain_all.new.self } in
-    empty_spaced made c.new-2.ensures.items c.new-3.ensures.items c.new-4.ensures.items (flat_new c.in_ok-pages.pages c.obtain_all.new.self _ _ c.in_ok-pages.ensures c.obtain_all.ensures.bytes)
+    let made : Held = record { layout = c.args.layout; text = c.in_ok-text.text; shadow = c.none.result; helpers = c.none-2.result; stub = c.none-3.result; pages = c.obtain_all.new.self } in
+    rw (← c.in_ok-text.ensures) (empty_spaced made c.none.ensures c.none-2.ensures c.none-3.ensures (flat_new c.in_ok-pages.pages c.obtain_all.new.self _ _ c.in_ok-pages.ensures c.obtain_all.ensures.bytes))
 
 pub returns-clause-spare : goal.returns-clause-spare
 unfolding spare_of

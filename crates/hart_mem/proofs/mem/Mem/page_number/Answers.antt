@@ -3,7 +3,6 @@ use Rattle.rv_model.specs.Memory.{loaded}
 use Rattle.rv_model.specs.Rights.{rights_of}
 use Rattle.hart_mem.specs.Paged.{flat}
 use Rattle.hart_mem.specs.contracts.mem.Mem.{the_view}
-use Rattle.hart_mem.proofs.PlaceLemmas.{width_few}
 use Rattle.hart_mem.proofs.MemLemmas.{byte_seen, first_right, in_page, inside_pages, number_seen}
 use Rattle.hart_mem.proofs.mem.Mem.page_number.Goals as goal
 
@@ -13,7 +12,7 @@ place_of-place-requires-clause-allowed c =
     first_right (the_view c.self.inside) c.self.invariant (rights_of c.args.view c.self.inside.layout).load c.args.address c.args.size c.requires.size all
 
 pub load-requires-clause-size : goal.load-requires-clause-size
-load-requires-clause-size c = width_few c.args.size c.requires.size
+load-requires-clause-size c = c.requires.size
 
 pub load-requires-clause-inside : goal.load-requires-clause-inside
 load-requires-clause-inside c =

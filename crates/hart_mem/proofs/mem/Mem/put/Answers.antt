@@ -28,17 +28,10 @@ pub returns-then-not-hold-clause-short : goal.returns-then-not-hold-clause-short
 unfolding spare_of
 returns-then-not-hold-clause-short c = λ _. rw (← c.self.view_is) (no_spare (is_held c.self.inside.pages (c.place_of-place.result / 4096)) c.self.inside.pages.pool.spare (sym c.hold.ensures.answer ∙ c.if-not-hold.true))
 
-pub slice_bounds-bytes-end : goal.slice_bounds-bytes-end
-slice_bounds-bytes-end c = omega (arith, width_few c.args.size c.requires.size, ap length c.to_le_bytes-bytes.ensures)
-
-pub slice_bounds-write-end : goal.slice_bounds-write-end
-slice_bounds-write-end c = sym (length-take-le c.args.size c.to_le_bytes-bytes.result (omega (arith, width_few c.args.size c.requires.size, ap length c.to_le_bytes-bytes.ensures)))
-
-pub write-requires-clause-fits : goal.write-requires-clause-fits
-write-requires-clause-fits c =
+pub write_first-requires-clause-fits : goal.write_first-requires-clause-fits
+write_first-requires-clause-fits c =
     let all = rw (← c.self.view_is) at c.requires.allowed in
-    let few : c.args.size ≤ length c.to_le_bytes-bytes.result = omega (arith, width_few c.args.size c.requires.size, ap length c.to_le_bytes-bytes.ensures) in
-    rw (length-take-le c.args.size c.to_le_bytes-bytes.result few, c.place_of-place.ensures) (put_fits (the_view c.self.inside) c.self.invariant c.args.view c.args.address c.args.size c.requires.size all c.requires.aligned)
+    rw c.place_of-place.ensures (put_fits (the_view c.self.inside) c.self.invariant c.args.view c.args.address c.args.size c.requires.size all c.requires.aligned)
 
 pub returns-clause-answer : goal.returns-clause-answer
 returns-clause-answer c =
@@ -50,17 +43,17 @@ pub returns-clause-ok : goal.returns-clause-ok
 returns-clause-ok c = λ _.
     let all = rw (← c.self.view_is) at c.requires.allowed in
     let piece : List ℕ = take c.args.size c.to_le_bytes-bytes.result in
-    let bytes = c.write.ensures.bytes ∙ ap (λ (m : Memory). written m c.place_of-place.result piece) c.hold.ensures.bytes ∙ piece_stored (flat c.self.inside.pages) c.place_of-place.result c.args.size c.args.value c.to_le_bytes-bytes.result (width_few c.args.size c.requires.size) c.to_le_bytes-bytes.ensures ∙ ap (λ (p : ℕ). stored (flat c.self.inside.pages) p c.args.size c.args.value) c.place_of-place.ensures in
-    rw (← c.self.view_is) (stored_space (the_view c.self.inside) c.write.new.self c.self.invariant c.args.view c.args.address c.args.size c.args.value c.requires.size c.requires.aligned all bytes)
+    let bytes = c.write_first.ensures.bytes ∙ ap (λ (m : Memory). written m c.place_of-place.result piece) c.hold.ensures.bytes ∙ piece_stored (flat c.self.inside.pages) c.place_of-place.result c.args.size c.args.value c.to_le_bytes-bytes.result (width_few c.args.size c.requires.size) c.to_le_bytes-bytes.ensures ∙ ap (λ (p : ℕ). stored (flat c.self.inside.pages) p c.args.size c.args.value) c.place_of-place.ensures in
+    rw (← c.self.view_is) (stored_space (the_view c.self.inside) c.write_first.new.self c.self.invariant c.args.view c.args.address c.args.size c.args.value c.requires.size c.requires.aligned all bytes)
 
 pub returns-clause-spare : goal.returns-clause-spare
 unfolding spare_of
 returns-clause-spare c =
-    rw (← c.self.view_is) (spare_bounds (is_held c.self.inside.pages (c.place_of-place.result / 4096)) c.self.inside.pages.pool.spare c.write.new.self.pool.spare (c.write.ensures.spare ∙ c.hold.ensures.spare))
+    rw (← c.self.view_is) (spare_bounds (is_held c.self.inside.pages (c.place_of-place.result / 4096)) c.self.inside.pages.pool.spare c.write_first.new.self.pool.spare (c.write_first.ensures.spare ∙ c.hold.ensures.spare))
 
 pub returns-clause-kept : goal.returns-clause-kept
 unfolding spare_of
 returns-clause-kept c = λ shadow.
     let all = rw (← c.self.view_is) at c.requires.allowed in
-    let after = rw c.place_of-place.ensures at (c.write.ensures.spare ∙ c.hold.ensures.spare) in
-    rw (← c.self.view_is) (put_kept (the_view c.self.inside) c.self.invariant c.args.view c.args.address c.args.size c.requires.size all c.self.inside.pages.pool.spare c.write.new.self.pool.spare shadow after)
+    let after = rw c.place_of-place.ensures at (c.write_first.ensures.spare ∙ c.hold.ensures.spare) in
+    rw (← c.self.view_is) (put_kept (the_view c.self.inside) c.self.invariant c.args.view c.args.address c.args.size c.requires.size all c.self.inside.pages.pool.spare c.write_first.new.self.pool.spare shadow after)

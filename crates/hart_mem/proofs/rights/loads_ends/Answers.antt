@@ -1,7 +1,7 @@
 use Rattle.std.proofs.Common.{◌+◌, ◌-◌, ◌&&◌, ◌∙◌, sym, ap, Bool}
 use Rattle.rv_model.specs.Rights.{rights_of}
 use Rattle.hart_mem.proofs.Grains.{loads_all}
-use Rattle.hart_mem.proofs.rights.may_load_all.Goals as goal
+use Rattle.hart_mem.proofs.rights.loads_ends.Goals as goal
 
 pub returns-then-may_load : goal.returns-then-may_load
 returns-then-may_load c =

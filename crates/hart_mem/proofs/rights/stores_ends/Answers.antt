@@ -1,7 +1,7 @@
 use Rattle.std.proofs.Common.{◌+◌, ◌-◌, ◌&&◌, ◌∙◌, sym, ap, Bool}
 use Rattle.rv_model.specs.Rights.{rights_of}
 use Rattle.hart_mem.proofs.Grains.{stores_all}
-use Rattle.hart_mem.proofs.rights.may_store_all.Goals as goal
+use Rattle.hart_mem.proofs.rights.stores_ends.Goals as goal
 
 pub returns-then-may_store : goal.returns-then-may_store
 returns-then-may_store c =
