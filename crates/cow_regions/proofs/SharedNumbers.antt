@@ -15,7 +15,7 @@ use Rattle.hart_mem.specs.declared.access.Width.TheVariants.{One, Two, Four, Eig
 use Rattle.hart_mem.specs.Held.{Held, lacks_frame, load_answer, load_answer_if, store_answer, store_answer_if, space_of}
 use Rattle.hart_mem.specs.declared.access.Access.{Access}
 use Rattle.hart_mem.proofs.Numbers.{loaded_same}
-use Rattle.hart_mem.proofs.PartLemmas.{all_from-inside}
+use Rattle.rv_model.proofs.DataLemmas.{all_from-inside}
 use Rattle.code_model.specs.Regions.{entry_address, listed_address, slot_address}
 use Rattle.cow_regions.specs.Tables.{IsNumber, all_regions}
 

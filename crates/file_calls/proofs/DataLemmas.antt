@@ -5,7 +5,7 @@ use Rattle.std.specs.Prelude.{◌==◌, is_some, unwrap_or}
 use Rattle.rv_model.specs.Memory.{Memory, all_from}
 use Rattle.program_model.specs.Descriptors.{EFAULT, ENAMETOOLONG}
 use Rattle.program_model.specs.Calls.{Named, Refused, Whole, name_from, name_at, not_empty}
-use Rattle.file_calls.specs.Data.{byte_in, data_in, memory_in}
+use Rattle.rv_model.specs.Data.{byte_in, data_in, memory_in}
 
 -- what is left of n after k, of which k isn't the last
 less_one : (k n : ℕ) → k < n → n - k ≡ suc (n - (k + 1))

@@ -3,7 +3,8 @@
 ghost use Rattle.std.specs.Prelude.{◌≡◌, ◌+◌, ◌≤◌, length};
 ghost use Rattle.rv_model.specs.Memory.{all_from};
 ghost use Rattle.program_model.specs.Calls as calls;
-ghost use Rattle.file_calls.specs.Data.{byte_in, data_in, memory_in, named};
+ghost use Rattle.rv_model.specs.Data.{byte_in, data_in, memory_in};
+ghost use Rattle.file_calls.specs.Data.{named};
 
 use crate::answers::{BAD_ADDRESS, NAME_TOO_LONG, NO_SUCH_FILE};
 use arrayvec::ArrayVec;

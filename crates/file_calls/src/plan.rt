@@ -5,7 +5,7 @@ ghost use Rattle.program_model.specs.Descriptors.{slot};
 ghost use Rattle.program_model.specs.Calls as calls;
 ghost use Rattle.rv_model.specs.Memory.{all_from};
 ghost use Rattle.rv_model.specs.Arithmetic.{signed};
-ghost use Rattle.file_calls.specs.Data.{data_in, memory_in};
+ghost use Rattle.rv_model.specs.Data.{data_in, memory_in};
 ghost use Rattle.file_calls.specs.Plans.{plan_shown, opening_shown, reading_shown, offset_at, left, ReadBounds, PlanBounds, IsOnData};
 
 use crate::answers::{

@@ -9,3 +9,4 @@ pub mod ViewLemmas
 pub mod CodeLemmas
 pub mod MemLemmas
 pub mod Loading
+pub mod DataBytes

@@ -23,7 +23,8 @@ use Rattle.hart_mem.specs.declared.access.Access.TheVariants as access
 use Rattle.hart_mem.proofs.CodeLemmas.{code_given}
 use Rattle.hart_mem.proofs.Grains.{IsLawful, lawful_is, range_end-below}
 use Rattle.hart_mem.proofs.PageLemmas.{flat_none}
-use Rattle.hart_mem.proofs.PartLemmas.{all_from-inside, all_from-at, part_in, part_out}
+use Rattle.rv_model.proofs.DataLemmas.{all_from-inside, all_from-at}
+use Rattle.hart_mem.proofs.PartLemmas.{part_in, part_out}
 use Rattle.hart_mem.proofs.PlaceLemmas.{in_eight, width_some, width_few}
 use Rattle.hart_mem.proofs.SpaceLemmas.{spaced, data_low, program_patched}
 use Rattle.hart_mem.proofs.ViewLemmas.{loaded_view, loaded_spaced, place_inside, place_mod, range_low, seen_view, sees_data, sees_text, shadow_low, shadow_page_past, store_loads, stored_view, stub_page_past}

@@ -1,5 +1,5 @@
 -- A memory in pages: what a byte is, and what a write and a new frame make of it.
-use Rattle.std.proofs.Common.{◌≡◌, ℕ, ◌+◌, ◌-◌, ◌/◌, ◌%◌, ◌<◌, ◌≤◌, List, [], length, get_or, set, false, IsTrue, Option, Some, None, is_some, unwrap_or, cond, refl, ap, sym, subst, ◌∙◌, arith, inl, inr}
+use Rattle.std.proofs.Common.{◌≡◌, ℕ, ◌+◌, ◌-◌, ◌/◌, ◌%◌, ◌<◌, ◌≤◌, List, [], length, get_or, take, drop, replicate, set, false, IsTrue, Option, Some, None, is_some, unwrap_or, cond, refl, ap, sym, subst, ◌∙◌, arith, inl, inr}
 use Rattle.std.specs.List.{count_by, sum_by}
 use Rattle.std.proofs.lemmas.List.{get_or_past, get_or-set_same, get_or-set_other}
 use Rattle.std.proofs.lemmas.List.Sums.{sum_by-set}
@@ -7,7 +7,8 @@ use Rattle.std.proofs.Math.ListN.{length-set}
 use Rattle.std.proofs.lemmas.Bool.{cases_eq, cases_lt, false≢true}
 use Rattle.std.proofs.lemmas.Bool.Decides.{nat_tests}
 use Rattle.std.proofs.Math.Path.{fun_ext}
-use Rattle.rv_model.specs.Memory.{Memory, loaded, patched, written}
+use Rattle.rv_model.specs.Memory.{Memory, loaded, patched, written, bytes_at as stretch}
+use Rattle.rv_model.proofs.DataLemmas.{bytes_at-of_list, bytes_at-zeros}
 use Rattle.page_pool.specs.Pages.{overwritten}
 use Rattle.page_pool.specs.Frames.{Frames, frame_at, bytes_at, IsTaken, IsWritten}
 use Rattle.page_pool.proofs.PageLemmas.{length-blank_page, get_or-blank_page}
@@ -16,6 +17,10 @@ use Rattle.hart_mem.proofs.Numbers.{loaded_same, loaded_zero}
 use Rattle.hart_mem.proofs.Pieces.{byte_in-overwritten, length-overwritten}
 
 -- ---- bytes
+
+bytes_of_page : (o : Option (List ℕ)) → IsPage o → length (unwrap_or o []) ≡ 4096
+bytes_of_page None h = absurd h
+bytes_of_page (Some bytes) h = h
 
 -- a byte of the page of a place, which has a frame
 flat_held : (p : Paged) (a k : ℕ) → frame_of p (a / 4096) ≡ Some k → flat p a ≡ byte_in (bytes_at p.pool k) (a % 4096)
@@ -39,6 +44,22 @@ loaded_held p a n k fits e =
 pub loaded_not_held : (p : Paged) (a n : ℕ) → a % 4096 + n ≤ 4096 → frame_of p (a / 4096) ≡ None → 0 ≡ loaded (flat p) a n
 loaded_not_held p a n fits e =
     loaded_zero _ n a (λ i l.
+    let page : (a + i) / 4096 ≡ a / 4096 = omega arith in
+    flat_none p (a + i) (rw page e))
+
+-- the bytes of a stretch in a page with a frame
+pub bytes_held : (p : Paged) → IsSound p → (a n k : ℕ) → a % 4096 + n ≤ 4096 → frame_of p (a / 4096) ≡ Some k → take n (drop (a % 4096) (bytes_at p.pool k)) ≡ stretch (flat p) a n
+unfolding byte_in
+bytes_held p sound a n k fits e =
+    bytes_at-of_list (flat p) a n (a % 4096) (bytes_at p.pool k) (omega (arith, bytes_of_page (frame_at p.pool k) (sound.pages (a / 4096) k e))) (λ i l.
+    let page : (a + i) / 4096 ≡ a / 4096 = omega arith in
+    let place : (a + i) % 4096 ≡ a % 4096 + i = omega arith in
+    sym (flat_held p (a + i) k (rw page e) ∙ ap (byte_in (bytes_at p.pool k)) place))
+
+-- and of one in a page with none
+pub bytes_not_held : (p : Paged) (a n : ℕ) → a % 4096 + n ≤ 4096 → frame_of p (a / 4096) ≡ None → replicate n 0 ≡ stretch (flat p) a n
+bytes_not_held p a n fits e =
+    bytes_at-zeros (flat p) a n (λ i l.
     let page : (a + i) / 4096 ≡ a / 4096 = omega arith in
     flat_none p (a + i) (rw page e))
 
@@ -74,10 +95,6 @@ unfolding patched
 patch_moved m s a c n f b d e h =
     let less : a ≤ b → b - a ≡ d - c = λ q. omega arith in
     grind (arith, nat_tests, less)
-
-bytes_of_page : (o : Option (List ℕ)) → IsPage o → length (unwrap_or o []) ≡ 4096
-bytes_of_page None h = absurd h
-bytes_of_page (Some bytes) h = h
 
 module _ (p : Paged) (sound : IsSound p) (new : Frames) (a k : ℕ) (bytes : List ℕ) (fits : a % 4096 + length bytes ≤ 4096) (here : frame_of p (a / 4096) ≡ Some k) (done : IsWritten p.pool new k (overwritten (bytes_at p.pool k) (a % 4096) bytes)) where
   after : Paged

@@ -1,9 +1,9 @@
 -- A change of the pages is a change of the one part that it touches.
-use Rattle.std.proofs.Common.{◌≡◌, ℕ, zero, suc, ◌+◌, ◌-◌, ◌<◌, ◌≤◌, Bool, true, false, ◌&&◌, IsTrue, refl, sym, subst, ◌∙◌, arith, inl, inr}
+use Rattle.std.proofs.Common.{◌≡◌, ℕ, ◌+◌, ◌-◌, ◌<◌, ◌≤◌, Bool, true, false, IsTrue, refl, sym, ◌∙◌, arith, inl, inr}
 use Rattle.std.proofs.lemmas.Bool.{cases_lt, false≢true}
 use Rattle.std.proofs.lemmas.Bool.Decides.{nat_tests}
 use Rattle.std.proofs.Math.Path.{fun_ext}
-use Rattle.rv_model.specs.Memory.{Memory, patched, all_from}
+use Rattle.rv_model.specs.Memory.{Memory, patched}
 use Rattle.hart_mem.specs.Held.{part}
 
 -- ---- one byte after a patch
@@ -19,32 +19,6 @@ patch_outside m base n f b h = grind (arith, nat_tests, h)
 pub patch_over : (m k : Memory) (base n : ℕ) (f : Memory) (b : ℕ) → m b ≡ k b → patched m base n f b ≡ patched k base n f b
 unfolding patched
 patch_over m k base n f b e = grind (arith, nat_tests)
-
--- ---- tests at n addresses
-
-first_of_two : (p q : Bool) → IsTrue (p && q) → IsTrue p
-first_of_two true q h = refl
-first_of_two false q h = h
-
-second_of_two : (p q : Bool) → IsTrue (p && q) → IsTrue q
-second_of_two true q h = h
-second_of_two false q h = absurd (false≢true h)
-
--- a test that holds at each of n addresses holds at one of them
-pub all_from-at : (test : ℕ → Bool) (n a i : ℕ) → IsTrue (all_from test a n) → i < n → IsTrue (test (a + i))
-unfolding all_from
-all_from-at test zero a i h l = absurd (omega arith)
-all_from-at test (suc n) a zero h l =
-    let e : a ≡ a + 0 = omega arith in
-    subst (λ b. IsTrue (test b)) e (first_of_two (test a) (all_from test (a + 1) n) h)
-all_from-at test (suc n) a (suc i) h l =
-    let e : a + 1 + i ≡ a + suc i = omega arith in
-    subst (λ b. IsTrue (test b)) e (all_from-at test n (a + 1) i (second_of_two (test a) (all_from test (a + 1) n) h) (omega arith))
-
-pub all_from-inside : (test : ℕ → Bool) (n a : ℕ) → IsTrue (all_from test a n) → (b : ℕ) → a ≤ b → b < a + n → IsTrue (test b)
-all_from-inside test n a h b low high =
-    let e : a + (b - a) ≡ b = omega arith in
-    subst (λ b. IsTrue (test b)) e (all_from-at test n a (b - a) h (omega arith))
 
 -- ---- parts
 

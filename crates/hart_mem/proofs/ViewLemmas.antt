@@ -16,7 +16,8 @@ use Rattle.hart_mem.specs.Places.{stub_place, shadow_place, shared_place, copies
 use Rattle.hart_mem.specs.Held.{Held, IsOffText, part}
 use Rattle.hart_mem.proofs.Numbers.{loaded_same}
 use Rattle.hart_mem.proofs.Grains.{range_end-pages, range_end-below, IsLawful}
-use Rattle.hart_mem.proofs.PartLemmas.{all_from-at, all_from-inside, patch_outside, patch_over, part_in, part_miss, part_out}
+use Rattle.rv_model.proofs.DataLemmas.{all_from-at, all_from-inside}
+use Rattle.hart_mem.proofs.PartLemmas.{patch_outside, patch_over, part_in, part_miss, part_out}
 use Rattle.hart_mem.proofs.PlaceLemmas.{shared_above, shared_below, shared_mod, shared_step}
 use Rattle.hart_mem.proofs.SpaceLemmas.{spaced, data_low, private_high, private_end, program_patched, stub_page_patched, shadow_page_patched, shared_patched}
 

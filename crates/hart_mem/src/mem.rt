@@ -15,7 +15,7 @@ ghost use Rattle.hart_mem.specs.Held.{IsOffText, data_byte, empty_space, lacks_f
 use crate::access::{Access, StoreFault, Width};
 use crate::code::Code;
 use crate::page_map::PageMap;
-use crate::rights::{is_data, is_in_text, may_load_all, may_store_all, page_count, place_of};
+use crate::rights::{is_all_data, is_data, is_in_text, may_load_all, may_store_all, page_count, place_of};
 use rv_decode::Instr;
 use rv_model::Bytes;
 use spec_base::{
@@ -376,5 +376,15 @@ impl Bytes for Mem {
             return None;
         }
         Some(self.pages.load(address as usize, 1) as u8)
+    }
+
+    fn is_all_data(&self, address: u64, count: u64) -> bool {
+        is_all_data(&self.layout, address, count)
+    }
+
+    fn copy_to(&self, address: u64, into: &mut [u8]) {
+        if !into.is_empty() {
+            self.pages.copy_to(address as usize, into);
+        }
     }
 }

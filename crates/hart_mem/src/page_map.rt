@@ -2,7 +2,7 @@
 
 ghost use Rattle.std.specs.Prelude.{ℕ, ◌≡◌, ◌≢◌, ◌+◌, ◌-◌, ◌*◌, ◌/◌, ◌%◌, ◌^◌, ◌<◌, ◌≤◌, ◌||◌, ◌⊎◌, IsTrue, nat_lt, if◌then◌else◌, true, false, length, take, Err, IfOk, OnOk, OnErr};
 ghost use Rattle.page_pool.specs.Frames.{reserved};
-ghost use Rattle.rv_model.specs.Memory.{loaded, written};
+ghost use Rattle.rv_model.specs.Memory.{bytes_at, loaded, written};
 ghost use Rattle.hart_mem.specs.Access.{IsWidth};
 ghost use Rattle.hart_mem.specs.Paged.{flat, is_held, IsEmpty, AreHeld, KeepsPages, end_page, pages_touched};
 
@@ -122,6 +122,36 @@ impl PageMap {
         match &self.table[place / PAGE_BYTES] {
             Some(frame) => number(self.pool.bytes(frame), place % PAGE_BYTES, size),
             None => 0,
+        }
+    }
+
+    /// Copies the bytes from a place on over those of a slice.
+    pub fn copy_to(&self, place: usize, into: &mut [u8])
+        requires inside { place + length into.old ≤ 4096 * length self.now.table }
+        requires fits { place + length into.old < 2 ^ 62 }
+        ensures { into.new ≡ bytes_at (flat self.now) place (length into.old) }
+    {
+        let mut done = 0;
+        while done < into.len() {
+            let at = place + done;
+            let end = into.len().min(done + (PAGE_BYTES - at % PAGE_BYTES));
+            self.copy_piece(at, &mut into[done..end]);
+            done = end;
+        }
+    }
+
+    // Copies bytes of one page.
+    fn copy_piece(&self, place: usize, into: &mut [u8])
+        requires inside { place / 4096 < length self.now.table }
+        requires fits { place % 4096 + length into.old ≤ 4096 }
+        ensures { into.new ≡ bytes_at (flat self.now) place (length into.old) }
+    {
+        match &self.table[place / PAGE_BYTES] {
+            Some(frame) => {
+                let at = place % PAGE_BYTES;
+                into.copy_from_slice(&self.pool.bytes(frame)[at..at + into.len()]);
+            }
+            None => into.fill(0),
         }
     }
 

@@ -21,7 +21,7 @@ use Rattle.world_io.proofs.Sinks.{none-SinkLog}
 use Rattle.world_io.proofs.Stores.{none-StoreLog}
 use Rattle.hart_mem.specs.Held.{Held, space_of, data_byte}
 use Rattle.hart_step.specs.Core.{Core}
-use Rattle.file_calls.specs.Data.{data_in, memory_in}
+use Rattle.rv_model.specs.Data.{data_in, memory_in}
 use Rattle.plain_runner.specs.declared.ending.Ending.{Ending}
 use Rattle.plain_runner.specs.declared.ending.Ending.TheVariants.{Exited, Trapped, TurnsOver, StoreFault, SinkFault, NoMemory}
 use Rattle.plain_runner.specs.StoreCalls.{calls_of, next_calls}
@@ -29,7 +29,8 @@ use Rattle.plain_runner.specs.Answers.{Answers, Sized, Gave}
 use Rattle.plain_runner.specs.Runs.{Outside, Shows, IsCall, IsFileCall}
 use Rattle.plain_runner.specs.Turns.{IsAtCall, GoesOn, Stops, alone, asks, puts_out, puts_err, piece, TurnsTo}
 use Rattle.plain_runner.specs.Outcomes.{OpenComesTo, ReadComesTo, PutComesTo, OfferComesTo, answered_core}
-use Rattle.plain_runner.proofs.Memories.{data-is, memory-is, zero_off_data, bytes_at-length}
+use Rattle.rv_model.proofs.DataLemmas.{bytes_at-length}
+use Rattle.hart_mem.proofs.DataBytes.{data-is, memory-is, zero_off_data}
 
 -- ---- the plan of the call
 

@@ -1,5 +1,4 @@
 mod Blocks
-mod Memories
 mod CallLemmas
 mod Steps
 mod RunLogs

@@ -6,7 +6,7 @@ ghost use Rattle.program_model.specs.PlainRun.{State, Image as Program};
 ghost use Rattle.program_model.specs.Calls.{call_plan};
 ghost use Rattle.hart_mem.specs.Held.{space_of, spare_of, data_byte};
 ghost use Rattle.hart_step.specs.Core.{core_of};
-ghost use Rattle.file_calls.specs.Data.{data_in, memory_in};
+ghost use Rattle.rv_model.specs.Data.{data_in, memory_in};
 ghost use Rattle.file_calls.specs.Plans.{plan_shown, PlanBounds, IsOnData};
 ghost use Rattle.plain_runner.specs.Runs.{Shows};
 ghost use Rattle.plain_runner.specs.Turns.{IsAtCall, TurnsTo};

@@ -3,7 +3,7 @@
 ghost use Rattle.std.specs.Prelude.{◌≡◌, ◌≤◌, ◌<◌, ◌+◌, ◌^◌, length};
 ghost use Rattle.rv_model.specs.Memory.{bytes_at};
 ghost use Rattle.hart_step.specs.Core.{core_of};
-ghost use Rattle.file_calls.specs.Data.{memory_in};
+ghost use Rattle.rv_model.specs.Data.{memory_in};
 ghost use Rattle.plain_runner.specs.Outcomes.{PutComesTo, OfferComesTo};
 
 use crate::answering::answer;

@@ -1,8 +1,8 @@
 -- The laws of a patch: what each byte and each number is after a change.
-use Rattle.std.proofs.Common.{◌≡◌, ℕ, zero, suc, ◌+◌, ◌-◌, ◌*◌, ◌/◌, ◌%◌, ◌^◌, ◌<◌, ◌≤◌, refl, ap, sym, ◌∙◌, arith, true, false}
+use Rattle.std.proofs.Common.{◌≡◌, ℕ, ◌+◌, ◌<◌, ◌≤◌, ap, arith}
 use Rattle.std.proofs.lemmas.Bool.Decides.{nat_tests}
 use Rattle.std.proofs.Math.Path.{fun_ext}
-use Rattle.rv_model.specs.Memory.{Memory, patched, loaded}
+use Rattle.rv_model.specs.Memory.{Memory, patched}
 
 module _ (m : Memory) (base n : ℕ) (f : Memory) where
   -- a byte outside the patch

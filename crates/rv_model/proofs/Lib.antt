@@ -1,3 +1,4 @@
 pub mod Laws
 pub mod Loads
 pub mod Results
+pub mod DataLemmas

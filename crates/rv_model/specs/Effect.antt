@@ -1,5 +1,5 @@
 -- What one instruction does (RISC-V Unprivileged ISA 20191213, chapters 2, 5 and 7; the gate instructions are this project's own).
-use Rattle.std.specs.Prelude.{ℕ, ◌+◌, ◌-◌, ◌/◌, ◌%◌, Bool, true, false, ◌&&◌, ℤ, List, slice_get, nat_le, ◌==◌, Option, Some, None}
+use Rattle.std.specs.Prelude.{ℕ, ◌+◌, ◌-◌, ◌/◌, ◌%◌, Bool, true, false, ◌&&◌, List, slice_get, nat_le, ◌==◌, Option, None}
 use Rattle.spec_base.specs.Word.{wrap, word_of_int, plus_int}
 use Rattle.spec_base.specs.declared.machine.Trap.{Trap}
 use Rattle.spec_base.specs.declared.machine.Trap.TheVariants as trap

@@ -4,3 +4,4 @@ pub mod Registers
 pub mod Arithmetic
 pub mod Effect
 pub mod Space
+pub mod Data

@@ -1,5 +1,5 @@
 -- What each view may load and store (this project's own).
-use Rattle.std.specs.Prelude.{ℕ, ◌+◌, ◌-◌, ◌*◌, ◌/◌, Bool, not, ◌&&◌, ◌||◌, nat_lt, nat_le}
+use Rattle.std.specs.Prelude.{ℕ, ◌+◌, ◌*◌, ◌/◌, Bool, not, ◌&&◌, ◌||◌, nat_lt, nat_le}
 use Rattle.spec_base.specs.Layout.{range_start, range_end, link_start, link_bytes, table_start, list_start, copies_start, private_start, private_bytes}
 use Rattle.spec_base.specs.declared.layout.Layout.{Layout}
 use Rattle.spec_base.specs.declared.machine.View.{View}

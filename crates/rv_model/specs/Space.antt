@@ -1,5 +1,5 @@
 -- A memory of all parts, and what each view sees of it (this project's own).
-use Rattle.std.specs.Prelude.{ℕ, ◌+◌, ◌-◌, ◌/◌, ◌%◌, Bool, true, false, List, get_or, nat_le, Option, Some, None}
+use Rattle.std.specs.Prelude.{ℕ, ◌-◌, ◌/◌, ◌%◌, Bool, true, false, List, get_or, nat_le, Option, Some, None}
 use Rattle.spec_base.specs.Word.{byte_of}
 use Rattle.spec_base.specs.Layout.{shadow_start, helpers_start, stub_start}
 use Rattle.spec_base.specs.declared.layout.Layout.{Layout}

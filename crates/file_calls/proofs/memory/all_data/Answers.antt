@@ -1,6 +1,6 @@
 use Rattle.std.proofs.Common.{◌≡◌, ◌+◌, ◌∙◌, sym, arith, true, false}
 use Rattle.std.proofs.lemmas.Grind.{common_steps}
-use Rattle.file_calls.specs.Data.{data_in}
+use Rattle.rv_model.specs.Data.{data_in}
 use Rattle.file_calls.proofs.DataLemmas.{all_from-next, all_from-stops, all_from-zero}
 use Rattle.file_calls.proofs.memory.all_data.Goals as goal
 

@@ -1,6 +1,6 @@
 use Rattle.std.proofs.Common.{◌≡◌, ◌+◌, ◌-◌}
 use Rattle.rv_model.specs.Memory.{all_from}
-use Rattle.file_calls.specs.Data.{data_in}
+use Rattle.rv_model.specs.Data.{data_in}
 use Rattle.file_calls.proofs.memory.all_data.Given as goal
 
 -- the answer is that on the bytes that are left

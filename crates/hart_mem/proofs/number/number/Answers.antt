@@ -1,4 +1,4 @@
-use Rattle.std.proofs.Common.{◌≡◌, ◌∙◌, ◌+◌, ◌*◌, ◌^◌, ◌<◌, ℕ, get_or, List, arith, sym}
+use Rattle.std.proofs.Common.{◌+◌, ◌*◌, ◌^◌, ◌<◌, ℕ, get_or, List, arith}
 use Rattle.rv_model.specs.Memory.{loaded}
 use Rattle.hart_mem.specs.Paged.{byte_in}
 use Rattle.hart_mem.proofs.Numbers.{loaded_byte, loaded_fits}

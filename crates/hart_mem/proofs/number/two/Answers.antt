@@ -1,5 +1,4 @@
-use Rattle.std.proofs.Common.{◌∙◌, ◌≡◌, arith}
-use Rattle.rv_model.specs.Memory.{loaded}
+use Rattle.std.proofs.Common.{arith}
 use Rattle.hart_mem.specs.Paged.{byte_in}
 use Rattle.hart_mem.proofs.Numbers.{loaded_two}
 use Rattle.hart_mem.proofs.number.two.Goals as goal

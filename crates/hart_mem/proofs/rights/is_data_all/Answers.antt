@@ -1,6 +1,6 @@
-use Rattle.std.proofs.Common.{◌≡◌, ◌∙◌, ◌+◌, ◌-◌, ◌||◌, Bool, true, false, nat_lt, nat_le, sym, arith}
+use Rattle.std.proofs.Common.{◌≡◌, ◌∙◌, ◌+◌, ◌-◌, ◌||◌, nat_lt, nat_le, sym, arith}
 use Rattle.std.proofs.lemmas.Bool.Decides.{nat_tests}
-use Rattle.hart_mem.proofs.Grains.{data_outside, data_inside, range_end-below}
+use Rattle.hart_mem.proofs.Grains.{data_outside, data_inside}
 use Rattle.hart_mem.proofs.rights.is_data_all.Goals as goal
 
 pub returns-then-not-is_in_range : goal.returns-then-not-is_in_range

@@ -5,12 +5,12 @@ use Rattle.rv_model.specs.Memory.{bytes_at}
 use Rattle.rv_model.specs.Registers.{reg}
 use Rattle.hart_mem.specs.Held.{space_of, data_byte}
 use Rattle.hart_step.specs.Core.{core_of}
-use Rattle.file_calls.specs.Data.{data_in, memory_in}
+use Rattle.rv_model.specs.Data.{data_in, memory_in}
 use Rattle.file_calls.specs.Plans.{plan_shown, PlanBounds, IsOnData}
 use Rattle.plain_runner.specs.Runs.{Outside}
 use Rattle.plain_runner.specs.Turns.{GoesOn}
 use Rattle.plain_runner.specs.Outcomes.{OfferComesTo, answered_core}
-use Rattle.plain_runner.proofs.Memories.{write_room}
+use Rattle.hart_mem.proofs.DataBytes.{write_room}
 use Rattle.plain_runner.proofs.CallLemmas.{planned, set-GoesOn, exit-Stops, open-TurnsTo, read-TurnsTo, offer-TurnsTo}
 use Rattle.plain_runner.proofs.calls.perform.Goals as goal
 

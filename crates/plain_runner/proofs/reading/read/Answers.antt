@@ -2,7 +2,7 @@ use Rattle.std.proofs.Common.{◌≤◌, length, ap, ◌∙◌, arith}
 use Rattle.std.proofs.lemmas.List.{length-take}
 use Rattle.rv_model.specs.Rights.{is_data}
 use Rattle.hart_mem.specs.Held.{space_of}
-use Rattle.plain_runner.proofs.Memories.{all_from-fewer}
+use Rattle.rv_model.proofs.DataLemmas.{all_from-fewer}
 use Rattle.plain_runner.proofs.reading.read.Goals as goal
 
 pub fill-requires : goal.fill-requires

@@ -1,7 +1,7 @@
 use Rattle.std.proofs.Common.{◌+◌, ◌<◌, ◌^◌, length, sym, arith}
 use Rattle.std.proofs.lemmas.List.{take_more_set}
-use Rattle.file_calls.specs.Data.{memory_in}
-use Rattle.plain_runner.proofs.Memories.{bytes_at-more, bytes_at-none, memory_in-low}
+use Rattle.rv_model.specs.Data.{memory_in}
+use Rattle.rv_model.proofs.DataLemmas.{bytes_at-more, bytes_at-none, memory_in-low}
 use Rattle.plain_runner.proofs.writing.copy.Goals as goal
 
 pub loop-i-init : goal.loop-i-init

@@ -1,6 +1,6 @@
 use Rattle.std.proofs.Common.{◌≡◌, take}
 use Rattle.rv_model.specs.Memory.{bytes_at}
-use Rattle.file_calls.specs.Data.{memory_in}
+use Rattle.rv_model.specs.Data.{memory_in}
 use Rattle.plain_runner.proofs.writing.copy.Given as goal
 
 abbrev pub invariant-loop-i : goal.invariant-loop-i

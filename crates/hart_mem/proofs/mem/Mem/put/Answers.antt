@@ -1,5 +1,4 @@
-use Rattle.std.proofs.Common.{◌≤◌, ◌/◌, ◌∙◌, ℕ, List, length, take, ap, sym, arith}
-use Rattle.std.proofs.lemmas.List.{length-take-le}
+use Rattle.std.proofs.Common.{◌/◌, ◌∙◌, ℕ, List, take, ap, sym}
 use Rattle.rv_model.specs.Memory.{Memory, stored, written}
 use Rattle.hart_mem.specs.Held.{spare_of}
 use Rattle.hart_mem.specs.Paged.{flat, is_held}
