@@ -1,38 +1,12 @@
--- A byte more of a stretch of memory, and of a name.
+-- A byte more of a name.
 use Rattle.std.proofs.Common.{◌≡◌, ℕ, suc, ◌+◌, ◌-◌, ◌<◌, ◌≤◌, ◌∙◌, Bool, true, false, List, [], ◌∷◌, ◌++◌, length, ap, sym, arith, length-append, Option, Some, None}
 use Rattle.std.proofs.lemmas.Bool.Decides.{nat_tests}
 use Rattle.std.specs.Prelude.{◌==◌, is_some, unwrap_or}
-use Rattle.rv_model.specs.Memory.{Memory, all_from}
+use Rattle.rv_model.specs.Memory.{Memory}
+use Rattle.rv_model.proofs.DataLemmas.{less_one, one_past}
 use Rattle.program_model.specs.Descriptors.{EFAULT, ENAMETOOLONG}
 use Rattle.program_model.specs.Calls.{Named, Refused, Whole, name_from, name_at, not_empty}
 use Rattle.rv_model.specs.Data.{byte_in, data_in, memory_in}
-
--- what is left of n after k, of which k isn't the last
-less_one : (k n : ℕ) → k < n → n - k ≡ suc (n - (k + 1))
-less_one k n h = omega arith
-
-one_past : (a k : ℕ) → a + k + 1 ≡ a + (k + 1)
-one_past a k = omega arith
-
--- ---- whether all of a stretch is data
-
-all_from-true : (test : ℕ → Bool) (a n : ℕ) → test a ≡ true → all_from test a (suc n) ≡ all_from test (a + 1) n
-unfolding all_from
-all_from-true test a n e = rw e
-
-all_from-false : (test : ℕ → Bool) (a n : ℕ) → test a ≡ false → all_from test a (suc n) ≡ false
-unfolding all_from
-all_from-false test a n e = rw e
-
-pub all_from-next : (test : ℕ → Bool) (a k n : ℕ) → k < n → test (a + k) ≡ true → all_from test (a + k) (n - k) ≡ all_from test (a + (k + 1)) (n - (k + 1))
-all_from-next test a k n h e = rw (less_one k n h, ← one_past a k) (all_from-true test (a + k) (n - (k + 1)) e)
-
-pub all_from-stops : (test : ℕ → Bool) (a k n : ℕ) → k < n → test (a + k) ≡ false → all_from test (a + k) (n - k) ≡ false
-all_from-stops test a k n h e = rw (less_one k n h) (all_from-false test (a + k) (n - (k + 1)) e)
-
-pub all_from-zero : (test : ℕ → Bool) (a n : ℕ) → n ≡ 0 → all_from test a n ≡ true
-unfolding all_from
-all_from-zero test a n e = rw e
 
 -- ---- names
 

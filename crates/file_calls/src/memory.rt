@@ -1,7 +1,6 @@
 //! Bytes and names in a program's memory.
 
 ghost use Rattle.std.specs.Prelude.{◌≡◌, ◌+◌, ◌≤◌, length};
-ghost use Rattle.rv_model.specs.Memory.{all_from};
 ghost use Rattle.program_model.specs.Calls as calls;
 ghost use Rattle.rv_model.specs.Data.{byte_in, data_in, memory_in};
 ghost use Rattle.file_calls.specs.Data.{named};
@@ -19,18 +18,6 @@ pub fn byte_past<B: Bytes>(mem: &B, address: u64, distance: u64) -> Option<u8>
         Some(at) => mem.byte(at),
         None => None,
     }
-}
-
-/// Whether each of the `count` bytes from an address on is data.
-pub fn all_data<B: Bytes>(mem: &B, address: u64, count: u64) -> bool
-    ensures { result ≡ all_from (data_in (B.byte_at mem.now)) address count }
-{
-    for distance in 0..count {
-        if byte_past(mem, address, distance).is_none() {
-            return false;
-        }
-    }
-    true
 }
 
 /// The name at an address: the bytes before the first zero byte. The answer is the call's where

@@ -14,7 +14,7 @@ use crate::answers::{
 use crate::call::Call;
 use crate::descriptor::{Descriptor, OpenFile};
 use crate::files::Files;
-use crate::memory::{all_data, name_at};
+use crate::memory::name_at;
 use rv_model::Bytes;
 use spec_base::{Name, ReadSpot};
 
@@ -130,7 +130,7 @@ impl Files {
         };
         let left = file.size().saturating_sub(file.offset());
         let count = asked.min(MOST_BYTES.min(left));
-        if !all_data(mem, address, count) {
+        if !mem.is_all_data(address, count) {
             return Err(BAD_ADDRESS);
         }
         Ok(ReadSpot {
@@ -160,7 +160,7 @@ impl Files {
         ensures bounds { (d : ℕ) → PlanBounds self.now d result }
         ensures data { IsOnData (data_in (B.byte_at mem.now)) result }
     {
-        if !all_data(mem, address, count) {
+        if !mem.is_all_data(address, count) {
             CallPlan::Set(*self, BAD_ADDRESS)
         } else if count == 0 {
             CallPlan::Set(*self, 0)
