@@ -1,5 +1,5 @@
 -- A whole memory: where its bytes stand, and what a change of its pages makes of it.
-use Rattle.std.proofs.Common.{◌≡◌, ℕ, zero, suc, take, ◌+◌, ◌-◌, ◌*◌, ◌/◌, ◌%◌, ◌<◌, ◌≤◌, Bool, true, false, not, ◌&&◌, ◌||◌, ◌==◌, IsTrue, nat_lt, List, [], length, get_or, Option, Some, None, Result, Ok, Err, OnOk, OnErr, IsOk, eq-eqb, cond, refl, ap, sym, subst, ◌∙◌, arith}
+use Rattle.std.proofs.Common.{◌≡◌, ℕ, zero, suc, take, ◌+◌, ◌-◌, ◌*◌, ◌/◌, ◌%◌, ◌<◌, ◌≤◌, Bool, true, false, not, ◌&&◌, ◌||◌, ◌==◌, IsTrue, nat_lt, List, [], length, get_or, Option, Some, None, Result, Ok, Err, OnOk, OnErr, IsOk, eq-eqb, refl, ap, sym, subst, ◌∙◌, arith}
 use Rattle.std.proofs.lemmas.Bool.{false≢true}
 use Rattle.std.proofs.lemmas.Bool.Decides.{nat_tests}
 use Rattle.std.proofs.Math.Path.{fun_ext}
@@ -15,14 +15,14 @@ use Rattle.rv_model.specs.Rights.{in_private, in_range, in_shared, in_text, is_d
 use Rattle.rv_model.specs.Space.{Space, sees, stored_in, text_byte}
 use Rattle.program_model.specs.Loading.{data_of}
 use Rattle.hart_mem.specs.Access.{IsWidth}
-use Rattle.hart_mem.specs.Paged.{Paged, IsEmpty, flat, is_held, pages_touched}
+use Rattle.hart_mem.specs.Paged.{Paged, IsEmpty, TakesPages, end_page, flat, is_held, lacking}
 use Rattle.hart_mem.specs.Places.{place_of, shared_place, stub_place, shadow_place}
-use Rattle.hart_mem.specs.Held.{Held, IsOffText, IsWhole, code_or_zeros, data_byte, empty_space, lacks_frame, load_answer, load_answer_if, shadow_words, part, space_of}
+use Rattle.hart_mem.specs.Held.{Held, IsOffText, IsWhole, UsesSpare, pages_held, pages_stored, spare_of, code_or_zeros, data_byte, empty_space, lacks_frame, load_answer, load_answer_if, shadow_words, part, space_of}
 use Rattle.hart_mem.specs.declared.access.Access.{Access}
 use Rattle.hart_mem.specs.declared.access.Access.TheVariants as access
 use Rattle.hart_mem.proofs.CodeLemmas.{code_given}
 use Rattle.hart_mem.proofs.Grains.{IsLawful, lawful_is, range_end-below}
-use Rattle.hart_mem.proofs.PageLemmas.{flat_none}
+use Rattle.hart_mem.proofs.PageLemmas.{TakesPages-keeps, TakesPages-none, TakesPages-same, flat_none, lacking-few}
 use Rattle.rv_model.proofs.DataLemmas.{all_from-inside, all_from-at}
 use Rattle.hart_mem.proofs.PartLemmas.{part_in, part_out}
 use Rattle.hart_mem.proofs.PlaceLemmas.{in_eight, width_some, width_few}
@@ -49,6 +49,44 @@ module _ (h : Held) (pages : Paged) where
   filled_space whole a bytes ok e =
       ap (λ (m : Memory). spaced h m) e ∙ program_patched h (lawful_is h.layout whole.lawful) (flat h.pages) a (length bytes) _ (all_from-inside (is_data h.layout) (length bytes) a ok)
 
+-- ---- spare frames that pages take
+
+pub UsesSpare-same : (h k : Held) → k ≡ h → UsesSpare h k
+UsesSpare-same h k e = rw e (record { kept = λ page held. held; fewer = omega arith; spare = refl })
+
+pub UsesSpare-then : (h k l : Held) → UsesSpare h k → UsesSpare k l → UsesSpare h l
+UsesSpare-then h k l first second =
+    record {
+      kept = λ page held. second.kept page (first.kept page held);
+      fewer = omega (arith, first.fewer, second.fewer);
+      spare = second.spare ∙ first.spare;
+    }
+
+pub UsesSpare-takes : (h : Held) (q : Paged) (first end : ℕ) → TakesPages h.pages q first end → lacking h.pages first end ≤ h.pages.pool.spare → UsesSpare h (record h { pages = q })
+unfolding spare_of pages_held
+UsesSpare-takes h q first end takes enough =
+    record {
+      kept = λ page held. TakesPages-keeps h.pages q first end page takes held;
+      fewer = omega (arith, takes.spare);
+      spare = omega (arith, takes.frames, enough);
+    }
+
+-- a fill where enough frames are spare
+pub fill_uses : (h : Held) (q : Paged) (a n : ℕ) (r : Result Unit NoMemory) → OnOk r (TakesPages h.pages q (a / 4096) (end_page a n)) → OnErr r (q ≡ h.pages) → lacking h.pages (a / 4096) (end_page a n) ≤ h.pages.pool.spare → UsesSpare h (record h { pages = q })
+fill_uses h q a n (Ok u) takes same enough = UsesSpare-takes h q (a / 4096) (end_page a n) takes enough
+fill_uses h q a n (Err e) takes same enough = UsesSpare-same h (record h { pages = q }) (ap (λ (pages : Paged). let k : Held = record h { pages = pages } in k) same)
+
+-- ---- a memory whose pages have taken frames
+
+pub IsWhole-takes : (h : Held) → IsWhole h → (q : Paged) (first end : ℕ) → TakesPages h.pages q first end → IsWhole (record h { pages = q })
+IsWhole-takes h whole q first end takes =
+    record {
+      lawful = whole.lawful;
+      words = whole.words;
+      count = takes.length ∙ whole.count;
+      held = λ page low high. TakesPages-keeps h.pages q first end page takes (whole.held page low high);
+    }
+
 -- ---- emitted code
 
 pub coded_space : (h : Held) (s k b : List ℕ) → 1 ≤ length s → 1 ≤ length k → 1 ≤ length b → space_of (record h { shadow = s; helpers = k; stub = b }) ≡ record (space_of h) { shadow = s; helpers = k; stub = b }
@@ -66,6 +104,23 @@ unfolding patched
 nothing_written s a bytes e =
     let none : written s.program a bytes ≡ s.program = fun_ext (λ b. grind (arith, nat_tests)) in
     rw none refl
+
+pub no_bytes_written : (m : Memory) (a : ℕ) (bytes : List ℕ) → length bytes ≡ 0 → m ≡ written m a bytes
+unfolding patched
+no_bytes_written m a bytes e = fun_ext (λ b. grind (arith, nat_tests))
+
+-- and no part
+pub nothing_loaded : (h : Held) (a : ℕ) (bytes : List ℕ) → length bytes ≡ 0 → space_of h ≡ record (space_of h) { program = data_of (space_of h).layout (written (space_of h).program a bytes) }
+unfolding space_of part
+nothing_loaded h a bytes e =
+    let none : written (space_of h).program a bytes ≡ (space_of h).program = sym (no_bytes_written (space_of h).program a bytes e) in
+    let same : data_of h.layout (space_of h).program ≡ (space_of h).program = fun_ext (λ b. off_text (in_text h.layout b) (in_range h.layout b) (flat h.pages b)) in
+    rw (none, same) refl
+  where
+    off_text : (t inside : Bool) (x : ℕ) → ◌≡◌ {A = ℕ} (elim t as (λ _. ℕ) [ true ↦ 0 | false ↦ elim (inside && not t) [ true ↦ x | false ↦ 0 ] ]) (elim (inside && not t) [ true ↦ x | false ↦ 0 ])
+    off_text true true x = refl
+    off_text true false x = refl
+    off_text false inside x = refl
 
 -- ---- loads
 
@@ -137,13 +192,15 @@ module _ (h : Held) (whole : IsWhole h) where
   shadow_held : (a : ℕ) → IsTrue ((rights_of Shadow h.layout).store a) → IsTrue (is_held h.pages (place_of Shadow h.layout a / 4096))
   shadow_held a ok = whole.held (place_of Shadow h.layout a / 4096) (shadow_page_past h.layout lawful a ok) (place_inside h.layout lawful a Shadow (store_loads Shadow h.layout a ok))
 
+  -- and each that the stub stores to
+  stub_held : (a : ℕ) → IsTrue ((rights_of Stub h.layout).store a) → IsTrue (is_held h.pages (place_of Stub h.layout a / 4096))
+  stub_held a ok = whole.held (place_of Stub h.layout a / 4096) (stub_page_past h.layout lawful a ok) (place_inside h.layout lawful a Stub ok)
+
   pub frame_found : (v : View) (a : ℕ) → IsTrue ((rights_of v h.layout).store a) → (is_held h.pages (place_of v h.layout a / 4096) || nat_lt 0 h.pages.pool.spare) ≡ not (lacks_frame v h a)
   unfolding lacks_frame
   frame_found Plain a ok = or_not_and (is_held h.pages (a / 4096)) h.pages.pool.spare
   frame_found Program a ok = or_not_and (is_held h.pages (a / 4096)) h.pages.pool.spare
-  frame_found Stub a ok =
-      let held : IsTrue (is_held h.pages (place_of Stub h.layout a / 4096)) = whole.held (place_of Stub h.layout a / 4096) (stub_page_past h.layout lawful a ok) (place_inside h.layout lawful a Stub ok) in
-      ap (λ p. p || nat_lt 0 h.pages.pool.spare) held
+  frame_found Stub a ok = ap (λ p. p || nat_lt 0 h.pages.pool.spare) (stub_held a ok)
   frame_found Shadow a ok = ap (λ p. p || nat_lt 0 h.pages.pool.spare) (shadow_held a ok)
 
   -- a store of n bytes that the view stores
@@ -154,12 +211,42 @@ module _ (h : Held) (whole : IsWhole h) where
     pub put_found : (is_held h.pages (place_of v h.layout a / 4096) || nat_lt 0 h.pages.pool.spare) ≡ not (lacks_frame v h a)
     put_found = frame_found v a (first_right (rights_of v h.layout).store a n width all)
 
-    -- a store of the shadow takes no frame
-    pub put_kept : (s k : ℕ) → v ≡ Shadow → k ≡ cond (is_held h.pages (place_of v h.layout a / 4096)) s (s - 1) → k ≡ s
-    put_kept s k e is =
-        let first : IsTrue ((rights_of Shadow h.layout).store a) = subst (λ w. IsTrue ((rights_of w h.layout).store a)) e (first_right (rights_of v h.layout).store a n width all) in
-        let held : IsTrue (is_held h.pages (place_of v h.layout a / 4096)) = subst (λ w. IsTrue (is_held h.pages (place_of w h.layout a / 4096))) (sym e) (shadow_held a first) in
-        is ∙ ap (λ t. cond t s (s - 1)) held
+    -- the page of a store of the stub or of the shadow has a frame
+    put_had : pages_stored v ≡ 0 → is_held h.pages (place_of v h.layout a / 4096) ≡ true
+    put_had e = by v refl
+      where
+        by : (w : View) → w ≡ v → is_held h.pages (place_of v h.layout a / 4096) ≡ true
+        by Plain f = absurd (let g : 1 ≡ 0 = ap pages_stored f ∙ e in omega (arith, g))
+        by Program f = absurd (let g : 1 ≡ 0 = ap pages_stored f ∙ e in omega (arith, g))
+        by Stub f = subst (λ w. is_held h.pages (place_of w h.layout a / 4096) ≡ true) f (stub_held a (subst (λ w. IsTrue ((rights_of w h.layout).store a)) (sym f) (first_right (rights_of v h.layout).store a n width all)))
+        by Shadow f = subst (λ w. is_held h.pages (place_of w h.layout a / 4096) ≡ true) f (shadow_held a (subst (λ w. IsTrue ((rights_of w h.layout).store a)) (sym f) (first_right (rights_of v h.layout).store a n width all)))
+
+    -- the pages after a store, which held its page and then wrote to it
+    module _ (q r : Paged) (had : is_held h.pages (place_of v h.layout a / 4096) ≡ true → q ≡ h.pages) (takes : TakesPages h.pages q (place_of v h.layout a / 4096) (place_of v h.layout a / 4096 + 1)) (enough : lacking h.pages (place_of v h.layout a / 4096) (place_of v h.layout a / 4096 + 1) ≤ h.pages.pool.spare) (table : r.table ≡ q.table) (spare : r.pool.spare ≡ q.pool.spare) where
+      -- nothing is taken where the page had a frame
+      none_taken : is_held h.pages (place_of v h.layout a / 4096) ≡ true → (page : ℕ) → TakesPages h.pages r page page
+      none_taken e page = TakesPages-same h.pages h.pages r page page (table ∙ ap (λ (p : Paged). p.table) (had e)) (spare ∙ ap (λ (p : Paged). p.pool.spare) (had e)) (TakesPages-none h.pages page)
+
+      none_there : pages_stored v ≡ 0 → TakesPages h.pages r (a / 4096) (a / 4096 + pages_stored v)
+      none_there e =
+          let here : a / 4096 + pages_stored v ≡ a / 4096 = omega (arith, e) in
+          rw here (none_taken (put_had e) (a / 4096))
+
+      pub put_takes : TakesPages h.pages r (a / 4096) (a / 4096 + pages_stored v)
+      put_takes = by v refl
+        where
+          by : (w : View) → w ≡ v → TakesPages h.pages r (a / 4096) (a / 4096 + pages_stored v)
+          by Plain f = subst (λ w. TakesPages h.pages r (a / 4096) (a / 4096 + pages_stored w)) f (TakesPages-same h.pages q r (a / 4096) (a / 4096 + 1) table spare (subst (λ w. TakesPages h.pages q (place_of w h.layout a / 4096) (place_of w h.layout a / 4096 + 1)) (sym f) takes))
+          by Program f = subst (λ w. TakesPages h.pages r (a / 4096) (a / 4096 + pages_stored w)) f (TakesPages-same h.pages q r (a / 4096) (a / 4096 + 1) table spare (subst (λ w. TakesPages h.pages q (place_of w h.layout a / 4096) (place_of w h.layout a / 4096 + 1)) (sym f) takes))
+          by Stub f = none_there (ap pages_stored (sym f))
+          by Shadow f = none_there (ap pages_stored (sym f))
+
+      pub put_uses : UsesSpare h (record h { pages = r })
+      put_uses =
+          UsesSpare-takes h r (place_of v h.layout a / 4096) (place_of v h.layout a / 4096 + 1) (TakesPages-same h.pages q r _ _ table spare takes) enough
+
+      pub put_kept : pages_stored v ≡ 0 → r.pool.spare ≡ h.pages.pool.spare
+      put_kept e = spare ∙ ap (λ (p : Paged). p.pool.spare) (had (put_had e))
 
     pub put_inside : place_of v h.layout a / 4096 < length h.pages.table
     put_inside = inside_pages v a put_loads
@@ -265,12 +352,8 @@ pub no_spare : (held : Bool) (s : ℕ) → (held || nat_lt 0 s) ≡ false → s 
 no_spare true s e = absurd (false≢true (sym e))
 no_spare false s e = grind (arith, nat_tests)
 
-pub spare_bounds : (held : Bool) (s n : ℕ) → n ≡ cond held s (s - 1) → (n ≤ s) × (s ≤ n + 1)
-spare_bounds true s n e = (omega arith, omega arith)
-spare_bounds false s n e = (omega arith, omega arith)
-
-pub spare_enough : (a n s : ℕ) → n ≤ 65536 → 17 ≤ s → s < pages_touched a n → ⊥
-spare_enough a n s few enough short = absurd (omega arith)
+pub spare_enough : (p : Paged) (a n s : ℕ) → n ≤ 65536 → 17 ≤ s → s < lacking p (a / 4096) (end_page a n) → ⊥
+spare_enough p a n s few enough short = absurd (omega (arith, lacking-few p (a / 4096) (end_page a n)))
 
 -- ---- what holds of a result
 

@@ -1,18 +1,19 @@
 -- A memory in pages: what a byte is, and what a write and a new frame make of it.
-use Rattle.std.proofs.Common.{◌≡◌, ℕ, ◌+◌, ◌-◌, ◌/◌, ◌%◌, ◌<◌, ◌≤◌, List, [], length, get_or, take, drop, replicate, set, false, IsTrue, Option, Some, None, is_some, unwrap_or, cond, refl, ap, sym, subst, ◌∙◌, arith, inl, inr}
+use Rattle.std.proofs.Common.{◌≡◌, ℕ, suc, Bool, true, not, ◌||◌, ◌∷◌, slice_range, ◌+◌, ◌-◌, ◌/◌, ◌%◌, ◌<◌, ◌≤◌, List, [], length, get_or, take, drop, replicate, set, length-take, max, false, IsTrue, nat_lt, Option, Some, None, is_some, is_none, unwrap_or, cond, refl, ap, sym, subst, ◌∙◌, arith, inl, inr}
 use Rattle.std.specs.List.{count_by, sum_by}
 use Rattle.std.proofs.lemmas.List.{get_or_past, get_or-set_same, get_or-set_other}
-use Rattle.std.proofs.lemmas.List.Sums.{sum_by-set}
+use Rattle.std.proofs.lemmas.List.Sums.{count_by-le-length, sum_by-cons, sum_by-set, sum_by-take-drop, sum_by-take-le}
 use Rattle.std.proofs.Math.ListN.{length-set}
+use Rattle.std.proofs.Math.Seq.{drop-cons}
 use Rattle.std.proofs.lemmas.Bool.{cases_eq, cases_lt, false≢true}
 use Rattle.std.proofs.lemmas.Bool.Decides.{nat_tests}
 use Rattle.std.proofs.Math.Path.{fun_ext}
 use Rattle.rv_model.specs.Memory.{Memory, loaded, patched, written, bytes_at as stretch}
 use Rattle.rv_model.proofs.DataLemmas.{bytes_at-of_list, bytes_at-zeros}
 use Rattle.page_pool.specs.Pages.{overwritten}
-use Rattle.page_pool.specs.Frames.{Frames, frame_at, bytes_at, IsTaken, IsWritten}
+use Rattle.page_pool.specs.Frames.{Frames, reserved, frame_at, bytes_at, IsTaken, IsWritten}
 use Rattle.page_pool.proofs.PageLemmas.{length-blank_page, get_or-blank_page}
-use Rattle.hart_mem.specs.Paged.{Paged, IsPage, IsSound, KeepsPages, byte_in, flat, frame_of, is_held, page_bytes}
+use Rattle.hart_mem.specs.Paged.{Paged, IsPage, IsSound, TakesPages, AreHeld, held_count, is_between, lacking, byte_in, flat, frame_of, is_held, page_bytes}
 use Rattle.hart_mem.proofs.Numbers.{loaded_same, loaded_zero}
 use Rattle.hart_mem.proofs.Pieces.{byte_in-overwritten, length-overwritten}
 
@@ -147,6 +148,61 @@ module _ (p : Paged) (sound : IsSound p) (new : Frames) (a k : ℕ) (bytes : Lis
         room = omega (arith, sound.room, done.most);
       }
 
+-- ---- pages that have no frame
+
+-- one item more
+count_cons : (f : Option ℕ → Bool) (x : Option ℕ) (xs : List (Option ℕ)) → count_by f (x ∷ xs) ≡ cond (f x) 1 0 + count_by f xs
+count_cons f x xs = sum_by-cons (λ y. cond (f y) 1 0) x xs
+
+-- the first of some pages
+pub lacking-next : (p : Paged) (first end : ℕ) → first < end → end ≤ length p.table → lacking p first end ≡ cond (is_none (frame_of p first)) 1 0 + lacking p (first + 1) end
+lacking-next p first end order inside =
+    let count : end - first ≡ suc (end - (first + 1)) = omega arith in
+    let none : Option ℕ = None in
+    let one : suc first ≡ first + 1 = omega arith in
+    let e : slice_range p.table first end ≡ frame_of p first ∷ slice_range p.table (first + 1) end = rw (count, drop-cons p.table first none (omega arith), one) refl in
+    ap (count_by is_none) e ∙ count_cons is_none (frame_of p first) (slice_range p.table (first + 1) end)
+
+pub lacking-end : (p : Paged) (page : ℕ) → lacking p page page ≡ 0
+lacking-end p page = let none : page - page ≡ 0 = omega arith in rw none refl
+
+none_not : (o : Option ℕ) → is_none o ≡ not (is_some o)
+none_not None = refl
+none_not (Some k) = refl
+
+lacking_one : (p : Paged) (page : ℕ) (held : Bool) → page < length p.table → is_held p page ≡ held → lacking p page (page + 1) ≡ cond held 0 1
+lacking_one p page held inside e =
+    lacking-next p page (page + 1) (omega arith) (omega arith) ∙ rw (none_not (frame_of p page), e, lacking-end p (page + 1)) (by held)
+    where
+      by : (held : Bool) → cond (not held) 1 0 + 0 ≡ cond held 0 1
+      by true = refl
+      by false = refl
+
+pub lacking-free : (p : Paged) (page : ℕ) → page < length p.table → is_held p page ≡ false → lacking p page (page + 1) ≡ 1
+lacking-free p page inside e = lacking_one p page false inside e
+
+pub lacking-had : (p : Paged) (page : ℕ) → page < length p.table → is_held p page ≡ true → lacking p page (page + 1) ≡ 0
+lacking-had p page inside e = lacking_one p page true inside e
+
+-- a page has a frame or none
+both_counts : (xs : List (Option ℕ)) → count_by is_none xs + count_by is_some xs ≡ length xs
+both_counts [] = refl
+both_counts (None ∷ xs) = rw (count_cons is_none None xs, count_cons is_some None xs) (omega (arith, both_counts xs))
+both_counts (Some k ∷ xs) = rw (count_cons is_none (Some k) xs, count_cons is_some (Some k) xs) (omega (arith, both_counts xs))
+
+pub lacking-room : (p : Paged) (first end : ℕ) → lacking p first end + held_count p ≤ length p.table
+lacking-room p first end =
+    let one = λ (o : Option ℕ). cond {A = ℕ} (is_none o) 1 0 in
+    omega (arith, both_counts p.table, sum_by-take-le one (drop first p.table) (end - first), sum_by-take-drop one p.table first)
+
+-- there are at most as many as there are pages
+pub lacking-few : (p : Paged) (first end : ℕ) → lacking p first end ≤ end - first
+lacking-few p first end = omega (arith, count_by-le-length is_none (slice_range p.table first end), length-take (end - first) (drop first p.table))
+
+or_true : (b : Bool) → (b || true) ≡ true
+or_true true = refl
+or_true false = refl
+
 -- ---- a frame for a page that has none
 
 some_is : (o : Option ℕ) → is_some o ≡ false → o ≡ None
@@ -157,14 +213,14 @@ is_page_some : (o : Option (List ℕ)) → IsPage o → o ≡ None → ⊥
 is_page_some None h e = h
 is_page_some (Some bytes) h e = cc
 
-abbrev held_count : Option ℕ → ℕ
-held_count o = cond (is_some o) 1 0
+abbrev one_if_held : Option ℕ → ℕ
+one_if_held o = cond (is_some o) 1 0
 
 count_by-set : (table : List (Option ℕ)) (page k : ℕ) → page < length table → is_some (let none : Option ℕ = None in get_or table page none) ≡ false → count_by is_some (set table page (Some k)) ≡ count_by is_some table + 1
 count_by-set table page k inside free =
     let none : Option ℕ = None in
-    let step : sum_by held_count (set table page (Some k)) + held_count (get_or table page none) ≡ sum_by held_count table + 1 = sum_by-set held_count table page (Some k) none inside in
-    let nothing : held_count (get_or table page none) ≡ 0 = ap (λ b. cond b 1 0) free in
+    let step : sum_by one_if_held (set table page (Some k)) + one_if_held (get_or table page none) ≡ sum_by one_if_held table + 1 = sum_by-set one_if_held table page (Some k) none inside in
+    let nothing : one_if_held (get_or table page none) ≡ 0 = ap (λ b. cond b 1 0) free in
     omega arith
 
 module _ (p : Paged) (sound : IsSound p) (new : Frames) (page k : ℕ) (inside : page < length p.table) (free : is_held p page ≡ false) (taken : IsTaken p.pool new k) where
@@ -244,28 +300,150 @@ module _ (p : Paged) (sound : IsSound p) (new : Frames) (page k : ℕ) (inside :
         room = omega (arith, sound.room, taken.most, length-set p.table page (Some k));
       }
 
-  held_after : (i : ℕ) → IsTrue (is_held p i) → IsTrue (is_some (entry i))
-  held_after i held =
+  held_after : (i : ℕ) → is_some (entry i) ≡ (is_held p i || is_between page (page + 1) i)
+  held_after i =
       elim (cases_eq i page) [
-        | inl here ↦ rw (entry_here i here) refl
-        | inr apart ↦ rw (entry_else i apart) held
+        | inl here ↦ (let now : is_some (entry i) ≡ true = ap is_some (entry_here i here) in rw now (grind (arith, nat_tests)))
+        | inr apart ↦ (let now : is_some (entry i) ≡ is_held p i = ap is_some (entry_else i apart) in rw now (grind (arith, nat_tests)))
       ]
 
-  pub KeepsPages-held : KeepsPages p (record { table = set p.table page (Some k); pool = new })
-  KeepsPages-held = record { length = length-set p.table page (Some k); held = held_after }
+  pub TakesPages-held : TakesPages p (record { table = set p.table page (Some k); pool = new }) page (page + 1)
+  TakesPages-held =
+      record {
+        length = length-set p.table page (Some k);
+        held = held_after;
+        spare = omega (arith, taken.spare, lacking-free p page inside free);
+        frames = omega (arith, taken.spare, lacking-free p page inside free, one_more);
+      }
 
--- ---- pages kept
+-- ---- pages that take frames
 
-pub KeepsPages-same : (old new : Paged) → new.table ≡ old.table → KeepsPages old new
-KeepsPages-same old new e =
+-- no frame is taken where a page has one
+pub TakesPages-had : (p : Paged) (page : ℕ) → page < length p.table → is_held p page ≡ true → TakesPages p p page (page + 1)
+TakesPages-had p page inside had =
     record {
-      length = ap length e;
-      held = λ page held. subst (λ (t : List (Option ℕ)). let none : Option ℕ = None in IsTrue (is_some (get_or t page none))) (sym e) held;
+      length = refl;
+      held = λ i. elim (cases_eq i page) [
+        | inl here ↦ (let same : is_held p i ≡ true = ap (is_held p) here ∙ had in rw same refl)
+        | inr apart ↦ grind (arith, nat_tests)
+      ];
+      spare = omega (arith, lacking-had p page inside had);
+      frames = omega (arith, lacking-had p page inside had);
     }
 
-pub KeepsPages-then : (a b c : Paged) → KeepsPages a b → KeepsPages b c → KeepsPages a c
-KeepsPages-then a b c first second =
+-- nor where no page is named
+pub TakesPages-none : (p : Paged) (page : ℕ) → TakesPages p p page page
+TakesPages-none p page =
     record {
-      length = second.length ∙ first.length;
-      held = λ page h. second.held page (first.held page h);
+      length = refl;
+      held = λ i. grind (arith, nat_tests);
+      spare = omega (arith, lacking-end p page);
+      frames = omega (arith, lacking-end p page);
     }
+
+-- the frames count alone
+pub TakesPages-same : (p q r : Paged) (first end : ℕ) → r.table ≡ q.table → r.pool.spare ≡ q.pool.spare → TakesPages p q first end → TakesPages p r first end
+TakesPages-same p q r first end e f takes =
+    record {
+      length = ap length e ∙ takes.length;
+      held = λ i. ap (λ (t : List (Option ℕ)). is_some (let none : Option ℕ = None in get_or t i none)) e ∙ takes.held i;
+      spare = f ∙ takes.spare;
+      frames = rw (f, e) takes.frames;
+    }
+
+-- the pages that a memory held are still held
+pub TakesPages-keeps : (p q : Paged) (first end page : ℕ) → TakesPages p q first end → IsTrue (is_held p page) → IsTrue (is_held q page)
+TakesPages-keeps p q first end page takes held = rw (takes.held page, held) refl
+
+-- and so are those that are named
+pub TakesPages-holds : (p q : Paged) (first end : ℕ) → TakesPages p q first end → AreHeld q first end
+TakesPages-holds p q first end takes page low high =
+    let named : is_between first end page ≡ true = grind (arith, nat_tests) in
+    takes.held page ∙ rw named (or_true (is_held p page))
+
+-- ---- pages that take frames, one after the other
+
+-- the pages up to one have frames, and enough are spare for those up to the end
+pub record TakesUpTo (p q : Paged) (first page end : ℕ) : Type 0 where
+  pub length : length q.table ≡ length p.table
+  pub held : (i : ℕ) → is_held q i ≡ (is_held p i || is_between first page i)
+  pub bytes : flat q ≡ flat p
+  pub spare : q.pool.spare ≡ lacking p page end + (p.pool.spare - lacking p first end)
+  pub frames : q.pool.spare + held_count q ≡ max p.pool.spare (lacking p first end) + held_count p
+
+-- none has taken one yet, and enough were reserved
+pub TakesUpTo-reserved : (p q : Paged) (first end : ℕ) → q ≡ record p { pool = reserved p.pool (lacking p first end) } → TakesUpTo p q first first end
+unfolding flat
+TakesUpTo-reserved p q first end e =
+    rw e
+    (record {
+      length = refl;
+      held = λ i. grind (arith, nat_tests);
+      bytes = refl;
+      spare = omega arith;
+      frames = refl;
+    })
+
+-- or were there
+pub TakesUpTo-enough : (p q : Paged) (first end : ℕ) → q ≡ p → lacking p first end ≤ p.pool.spare → TakesUpTo p q first first end
+TakesUpTo-enough p q first end e enough =
+    rw e
+    (record {
+      length = refl;
+      held = λ i. grind (arith, nat_tests);
+      bytes = refl;
+      spare = omega arith;
+      frames = omega arith;
+    })
+
+module _ (p q : Paged) (first page end : ℕ) (order : first ≤ page) (below : page < end) (inside : end ≤ length p.table) (taken : TakesUpTo p q first page end) where
+  or_false : (b : Bool) → (b || false) ≡ b
+  or_false true = refl
+  or_false false = refl
+
+  -- a page that isn't named yet is as it was
+  page_same : is_held q page ≡ is_held p page
+  page_same =
+      let later : is_between first page page ≡ false = grind (arith, nat_tests) in
+      taken.held page ∙ rw later (or_false (is_held p page))
+
+  flipped : (held : Bool) → ◌≡◌ {A = ℕ} (cond (not held) 1 0) (cond held 0 1)
+  flipped true = refl
+  flipped false = refl
+
+  rest : lacking p page end ≡ lacking p page (page + 1) + lacking p (page + 1) end
+  rest =
+      let here : lacking p page (page + 1) ≡ cond (is_held p page) 0 1 = lacking_one p page (is_held p page) (omega arith) refl in
+      let next = lacking-next p page end below inside in
+      omega (arith, next, here, ap {B = ℕ} (λ (b : Bool). cond b 1 0) (none_not (frame_of p page)), flipped (is_held p page))
+
+  both_lack : lacking q page (page + 1) ≡ lacking p page (page + 1)
+  both_lack =
+      lacking_one q page (is_held p page) (omega (arith, taken.length)) page_same ∙ sym (lacking_one p page (is_held p page) (omega arith) refl)
+
+  enough_here : lacking q page (page + 1) ≤ q.pool.spare
+  enough_here = omega (arith, both_lack, rest, taken.spare)
+
+  pub TakesUpTo-can : (is_held q page || nat_lt 0 q.pool.spare) ≡ true
+  TakesUpTo-can = by (is_held q page) refl
+    where
+      by : (held : Bool) → is_held q page ≡ held → (held || nat_lt 0 q.pool.spare) ≡ true
+      by true e = refl
+      by false e = (let one : lacking q page (page + 1) ≡ 1 = lacking_one q page false (omega (arith, taken.length)) e in grind (arith, nat_tests, enough_here))
+
+  pub TakesUpTo-next : (r : Paged) → flat r ≡ flat q → TakesPages q r page (page + 1) → TakesUpTo p r first (page + 1) end
+  TakesUpTo-next r bytes takes =
+      record {
+        length = takes.length ∙ taken.length;
+        held = λ i. takes.held i ∙ (let before = taken.held i in rw before (grind (arith, nat_tests)));
+        bytes = bytes ∙ taken.bytes;
+        spare = omega (arith, takes.spare, both_lack, rest, taken.spare);
+        frames = omega (arith, takes.frames, enough_here, taken.frames);
+      }
+
+-- all have taken theirs
+pub TakesUpTo-all : (p q : Paged) (first page end : ℕ) → page ≡ end → TakesUpTo p q first page end → TakesPages p q first end
+TakesUpTo-all p q first page end e taken =
+    let held : (i : ℕ) → is_held q i ≡ (is_held p i || is_between first end i) = λ i. taken.held i ∙ ap (λ (n : ℕ). is_held p i || is_between first n i) e in
+    let none : lacking p page end ≡ 0 = ap (λ (n : ℕ). lacking p n end) e ∙ lacking-end p end in
+    record { length = taken.length; held = held; spare = omega (arith, none, taken.spare); frames = taken.frames }

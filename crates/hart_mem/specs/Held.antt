@@ -1,5 +1,5 @@
 -- What a hart's memory holds, and the memory of all parts that it stands for (this project's own).
-use Rattle.std.specs.Prelude.{◌≡◌, ℕ, ◌+◌, ◌-◌, ◌*◌, ◌/◌, ◌%◌, ◌<◌, Bool, true, false, ◌==◌, not, ◌&&◌, List, [], ◌∷◌, length, replicate, IsTrue, Result, Ok, Err, Option, Some, None}
+use Rattle.std.specs.Prelude.{◌≡◌, ℕ, ◌+◌, ◌-◌, ◌*◌, ◌/◌, ◌%◌, ◌<◌, ◌≤◌, Bool, true, false, ◌==◌, not, ◌&&◌, List, [], ◌∷◌, length, replicate, IsTrue, Result, Ok, Err, Option, Some, None}
 use Rattle.spec_base.specs.Layout.{range_end, is_lawful, helper_words, stub_words}
 use Rattle.spec_base.specs.declared.layout.Version.{Version}
 use Rattle.spec_base.specs.declared.layout.Version.TheVariants.{One, Two}
@@ -9,7 +9,7 @@ use Rattle.spec_base.specs.declared.machine.View.TheVariants.{Plain, Program, St
 use Rattle.rv_model.specs.Memory.{Memory, loaded, all_from, zeros}
 use Rattle.rv_model.specs.Rights.{in_private, in_shared, in_text, is_data, rights_of}
 use Rattle.rv_model.specs.Space.{Space, sees}
-use Rattle.hart_mem.specs.Paged.{Paged, flat, is_held, AreHeld}
+use Rattle.hart_mem.specs.Paged.{Paged, flat, is_held, held_count, lacking, end_page, AreHeld}
 use Rattle.hart_mem.specs.Places.{shared_place, stub_place, shadow_place, page_count}
 use Rattle.hart_mem.specs.declared.access.Access.{Access}
 use Rattle.hart_mem.specs.declared.access.Access.TheVariants as access
@@ -59,6 +59,20 @@ space_of h =
 unfoldable pub spare_of : Held → ℕ
 spare_of h = h.pages.pool.spare
 
+-- how many pages have one
+unfoldable pub pages_held : Held → ℕ
+pages_held h = held_count h.pages
+
+-- spare frames became frames of pages, and no memory was taken: no page lost its frame, and as many fewer are spare as pages got one
+pub record UsesSpare (old new : Held) : Type 0 where
+  pub kept : (page : ℕ) → IsTrue (is_held old.pages page) → IsTrue (is_held new.pages page)
+  pub fewer : spare_of new ≤ spare_of old
+  pub spare : spare_of new + pages_held new ≡ spare_of old + pages_held old
+
+-- how many of the pages that some bytes touch have no frame
+abbrev pub pages_wanted : Held → ℕ → ℕ → ℕ
+pages_wanted h a n = lacking h.pages (a / 4096) (end_page a n)
+
 -- a lawful layout with its text, and a frame for each page that isn't the program range's
 pub record IsWhole (h : Held) : Type 0 where
   pub lawful : IsTrue (is_lawful h.layout)
@@ -93,6 +107,13 @@ lacks_frame Plain h a = lacks_frame_at h a
 lacks_frame Program h a = lacks_frame_at h a
 lacks_frame Stub h a = false
 lacks_frame Shadow h a = false
+
+-- how many pages a store in a view can give a frame: the one page of the program range that it touches, and none elsewhere
+abbrev pub pages_stored : View → ℕ
+pages_stored Plain = 1
+pages_stored Program = 1
+pages_stored Stub = 0
+pages_stored Shadow = 0
 
 abbrev pub store_answer : View → Space → Bool → ℕ → ℕ → Result Unit StoreFault
 store_answer view s lacks a width = store_answer_if (a % width == 0) (all_from (rights_of view s.layout).store a width) lacks

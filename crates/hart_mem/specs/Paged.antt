@@ -1,5 +1,5 @@
 -- A memory in pages of 4,096 bytes: each page has a frame of a pool, or none and reads as zero (this project's own).
-use Rattle.std.specs.Prelude.{◌≡◌, ℕ, ◌+◌, ◌-◌, ◌/◌, ◌%◌, ◌<◌, ◌≤◌, List, [], length, count_by, Bool, IsTrue, Option, Some, None, is_some, slice_index, slice_index_or}
+use Rattle.std.specs.Prelude.{◌≡◌, ℕ, ◌+◌, ◌-◌, ◌/◌, ◌%◌, ◌<◌, ◌≤◌, ◌&&◌, ◌||◌, nat_le, nat_lt, max, List, [], length, count_by, Bool, IsTrue, Option, Some, None, is_some, is_none, slice_index, slice_index_or, slice_range}
 use Rattle.rv_model.specs.Memory.{Memory}
 use Rattle.page_pool.specs.Frames.{Frames, frame_at, bytes_at, no_frames}
 
@@ -33,6 +33,18 @@ flat p a = byte_in (page_bytes p.pool (frame_of p (a / 4096))) (a % 4096)
 abbrev pub AreHeld : Paged → ℕ → ℕ → Type 0
 AreHeld p first end = (page : ℕ) → first ≤ page → page < end → IsTrue (is_held p page)
 
+-- how many pages have a frame
+abbrev pub held_count : Paged → ℕ
+held_count p = count_by is_some p.table
+
+-- how many of the pages from one up to another have none
+abbrev pub lacking : Paged → ℕ → ℕ → ℕ
+lacking p first end = count_by is_none (slice_range p.table first end)
+
+-- a page is one of those from one up to another
+abbrev pub is_between : ℕ → ℕ → ℕ → Bool
+is_between first end page = nat_le first page && nat_lt page end
+
 -- the first page after n bytes from a place on, and how many pages these bytes touch
 abbrev pub end_page : ℕ → ℕ → ℕ
 end_page place n = (place + n + 4095) / 4096
@@ -46,10 +58,12 @@ pub record IsEmpty (p : Paged) (pages most : ℕ) : Type 0 where
   pub pool : p.pool ≡ no_frames most
   pub none : (page : ℕ) → frame_of p page ≡ None
 
--- there are as many pages, and none has lost its frame
-pub record KeepsPages (old new : Paged) : Type 0 where
+-- the pages from one up to another have frames, the other pages as before. Each that had none took one that was spare, as far as there were any
+pub record TakesPages (old new : Paged) (first end : ℕ) : Type 0 where
   pub length : length new.table ≡ length old.table
-  pub held : (page : ℕ) → IsTrue (is_held old page) → IsTrue (is_held new page)
+  pub held : (page : ℕ) → is_held new page ≡ (is_held old page || is_between first end page)
+  pub spare : new.pool.spare ≡ old.pool.spare - lacking old first end
+  pub frames : new.pool.spare + held_count new ≡ max old.pool.spare (lacking old first end) + held_count old
 
 -- a frame has the bytes of a page
 abbrev pub IsPage : Option (List ℕ) → Type 0

@@ -1,7 +1,7 @@
 //! The memory of a hart.
 
 ghost use Rattle.rv_decode.specs.Instruction.{instr_of};
-ghost use Rattle.std.specs.Prelude.{option_map, ℕ, ◌≡◌, ◌+◌, ◌-◌, ◌*◌, ◌/◌, ◌%◌, ◌^◌, ◌<◌, ◌≤◌, ◌&&◌, not, ◌==◌, IsTrue, IsOk, true, false, length, vec_len, Err, IfOk, OnOk, OnErr};
+ghost use Rattle.std.specs.Prelude.{option_map, max, ℕ, ◌≡◌, ◌+◌, ◌-◌, ◌*◌, ◌/◌, ◌%◌, ◌^◌, ◌<◌, ◌≤◌, ◌&&◌, not, ◌==◌, IsTrue, IsOk, true, false, length, vec_len, Err, IfOk, OnOk, OnErr};
 ghost use Rattle.spec_base.specs.Word.{byte_of};
 ghost use Rattle.spec_base.specs.Layout.{range_end, is_lawful, helper_words, stub_words};
 ghost use Rattle.rv_model.specs.Memory.{all_from, loaded, written};
@@ -9,8 +9,8 @@ ghost use Rattle.rv_model.specs.Rights.{is_data, in_range, rights_of};
 ghost use Rattle.rv_model.specs.Space.{program_byte, sees, stored_in, word_at};
 ghost use Rattle.program_model.specs.Loading.{data_of};
 ghost use Rattle.hart_mem.specs.Access.{IsWidth, width_bytes};
-ghost use Rattle.hart_mem.specs.Paged.{pages_touched};
-ghost use Rattle.hart_mem.specs.Held.{IsOffText, data_byte, empty_space, lacks_frame, load_answer, shadow_words, most_frames, space_of, spare_of, store_answer, text_words};
+ghost use Rattle.hart_mem.specs.Paged.{TakesPages, end_page};
+ghost use Rattle.hart_mem.specs.Held.{IsOffText, UsesSpare, data_byte, empty_space, lacks_frame, load_answer, shadow_words, most_frames, pages_stored, pages_wanted, space_of, spare_of, store_answer, text_words};
 
 use crate::access::{Access, StoreFault, Width};
 use crate::code::Code;
@@ -105,7 +105,8 @@ impl Mem {
     /// The layout with which the memory was made.
     #[tactic(auto, unfolding(crate::specs::Held::space_of, crate::specs::Held::spare_of))]
     pub fn layout(&self) -> Layout
-        ensures { result ≡ (space_of self.now).layout }
+        ensures value { result ≡ (space_of self.now).layout }
+        ensures lawful { IsTrue (is_lawful (space_of self.now).layout) }
     {
         self.layout
     }
@@ -118,12 +119,13 @@ impl Mem {
         self.pages.spare()
     }
 
-    /// Sees to it that at least `n` frames are spare.
+    /// Sees to it that at least `n` frames are spare. Where memory is wanting, nothing changes.
     #[tactic(auto, unfolding(crate::specs::Held::space_of, crate::specs::Held::spare_of))]
     pub fn reserve(&mut self, n: usize) -> Result<(), NoMemory>
         requires { n ≤ 17 }
-        ensures ok { OnOk result (n ≤ spare_of self.new) }
-        ensures never_fewer { spare_of self.old ≤ spare_of self.new }
+        ensures ok { OnOk result (spare_of self.new ≡ max (spare_of self.old) n) }
+        ensures err { OnErr result (self.new ≡ self.old) }
+        ensures table { self.new.pages.table ≡ self.old.pages.table }
         ensures space { space_of self.new ≡ space_of self.old }
     {
         self.pages.reserve(n)
@@ -152,6 +154,25 @@ impl Mem {
         self.helpers = helpers;
         self.stub = stub;
         Ok(())
+    }
+
+    /// The word at pc of the view's code. None exactly where pc is outside it or no multiple of 4.
+    #[tactic(auto, unfolding(crate::specs::Held::space_of, crate::specs::Held::spare_of))]
+    pub fn fetch(&self, view: View, pc: u64) -> Option<u32>
+        ensures { result ≡ word_at view (space_of self.now) pc }
+    {
+        match view {
+            View::Plain | View::Program => self.text.word_at(self.layout.text_start, pc),
+            View::Stub => self.stub.word_or_zero_at(STUB_WORDS, STUB_START, pc),
+            View::Shadow => {
+                if HELPERS_START <= pc {
+                    self.helpers.word_or_zero_at(HELPER_WORDS, HELPERS_START, pc)
+                } else {
+                    let count = 16 * (self.text.words().len() + 1);
+                    self.shadow.word_or_zero_at(count, SHADOW_START, pc)
+                }
+            }
+        }
     }
 
     /// The instruction of the word at pc of the view's code. None exactly where pc is outside it or
@@ -276,7 +297,8 @@ impl Mem {
 
     /// Stores the lowest bytes of a value. `Unaligned` and `Out` as for a load, then `NoMemory`
     /// exactly where the page of the program range has no frame and none is spare. A store that
-    /// is refused changes nothing, and one of the shadow takes no frame.
+    /// is refused changes nothing. One to the program range gives its page a spare frame, where the
+    /// page has none; one of the stub or of the shadow takes no frame, and is never `NoMemory`.
     #[tactic(auto, unfolding(crate::specs::Held::space_of))]
     #[inline(always)]
     pub fn store(
@@ -290,8 +312,9 @@ impl Mem {
         ensures ok { OnOk result (space_of self.new ≡ stored_in view (space_of self.old) address (width_bytes width) value) }
         ensures err { OnErr result (self.new ≡ self.old) }
         ensures short { result ≡ Err StoreFault.NoMemory → spare_of self.old ≡ 0 }
-        ensures spare { (spare_of self.new ≤ spare_of self.old) × (spare_of self.old ≤ spare_of self.new + 1) }
-        ensures kept { view ≡ View.Shadow → spare_of self.new ≡ spare_of self.old }
+        ensures pages { OnOk result (TakesPages self.old.pages self.new.pages (address / 4096) (address / 4096 + pages_stored view)) }
+        ensures uses { UsesSpare self.old self.new }
+        ensures kept { pages_stored view ≡ 0 → spare_of self.new ≡ spare_of self.old }
     {
         let size = width.bytes() as u64;
         if address % size != 0 {
@@ -317,8 +340,9 @@ impl Mem {
         ensures ok { result ≡ true → space_of self.new ≡ stored_in view (space_of self.old) address size value }
         ensures err { result ≡ false → self.new ≡ self.old }
         ensures short { result ≡ false → spare_of self.old ≡ 0 }
-        ensures spare { (spare_of self.new ≤ spare_of self.old) × (spare_of self.old ≤ spare_of self.new + 1) }
-        ensures kept { view ≡ View.Shadow → spare_of self.new ≡ spare_of self.old }
+        ensures pages { result ≡ true → TakesPages self.old.pages self.new.pages (address / 4096) (address / 4096 + pages_stored view) }
+        ensures uses { result ≡ true → UsesSpare self.old self.new }
+        ensures kept { pages_stored view ≡ 0 → spare_of self.new ≡ spare_of self.old }
     {
         let place = place_of(view, &self.layout, address) as usize;
         if !self.pages.hold(place / 4096) {
@@ -329,16 +353,18 @@ impl Mem {
         true
     }
 
-    /// Writes bytes that are data. `NoMemory` comes only where memory is wanting and fewer frames
-    /// are spare than these bytes touch pages, which is at most 17 for 65,536 bytes; all data are
-    /// as before then.
+    /// Writes bytes that are data, and gives their pages frames. `NoMemory` comes only where memory
+    /// is wanting and fewer frames are spare than pages want one, which are at most 17 for 65,536
+    /// bytes; nothing changes then.
     pub fn fill(&mut self, address: u64, bytes: &[u8]) -> Result<(), NoMemory>
         requires { IsTrue (all_from (is_data (space_of self.old).layout) address (length bytes.now)) }
         ensures ok { OnOk result (space_of self.new ≡ record (space_of self.old) { program = written (space_of self.old).program address bytes.now }) }
-        ensures err { OnErr result (space_of self.new ≡ space_of self.old) }
-        ensures short { OnErr result (spare_of self.old < pages_touched address (length bytes.now)) }
+        ensures err { OnErr result (self.new ≡ self.old) }
+        ensures none { length bytes.now ≡ 0 → self.new ≡ self.old }
+        ensures pages { 0 < length bytes.now → OnOk result (TakesPages self.old.pages self.new.pages (address / 4096) (end_page address (length bytes.now))) }
+        ensures uses { pages_wanted self.old address (length bytes.now) ≤ spare_of self.old → UsesSpare self.old self.new }
+        ensures short { OnErr result (spare_of self.old < pages_wanted self.old address (length bytes.now)) }
         ensures enough { 17 ≤ spare_of self.old → length bytes.now ≤ 65536 → IsOk result }
-        ensures spare { spare_of self.old ≤ spare_of self.new + pages_touched address (length bytes.now) }
     {
         if bytes.is_empty() {
             return Ok(());
@@ -347,15 +373,19 @@ impl Mem {
     }
 
     /// Loads a part of a program: writes bytes of the program range where they are data. Those of
-    /// the text are left off, since its words stand apart. Where memory is wanting, all bytes are
-    /// as before.
+    /// the text are left off, since its words stand apart. Where memory is wanting, nothing changes.
     pub fn load_part(&mut self, address: u64, bytes: &[u8]) -> Result<(), NoMemory>
         requires above { 0x1000 ≤ address }
         requires below { address + length bytes.now ≤ range_end (space_of self.old).layout.version }
         ensures ok { OnOk result (space_of self.new ≡ record (space_of self.old) { program = data_of (space_of self.old).layout (written (space_of self.old).program address bytes.now) }) }
-        ensures err { OnErr result (space_of self.new ≡ space_of self.old) }
-        ensures short { OnErr result (spare_of self.old < pages_touched address (length bytes.now)) }
+        ensures err { OnErr result (self.new ≡ self.old) }
+        ensures none { length bytes.now ≡ 0 → self.new ≡ self.old }
+        ensures pages { 0 < length bytes.now → OnOk result (TakesPages self.old.pages self.new.pages (address / 4096) (end_page address (length bytes.now))) }
+        ensures short { OnErr result (spare_of self.old < pages_wanted self.old address (length bytes.now)) }
     {
+        if bytes.is_empty() {
+            return Ok(());
+        }
         self.pages.fill(address as usize, bytes)
     }
 }

@@ -4,7 +4,7 @@ ghost use Rattle.std.specs.Prelude.{ℕ, ◌≡◌, ◌≢◌, ◌+◌, ◌-◌,
 ghost use Rattle.page_pool.specs.Frames.{reserved};
 ghost use Rattle.rv_model.specs.Memory.{bytes_at, loaded, written};
 ghost use Rattle.hart_mem.specs.Access.{IsWidth};
-ghost use Rattle.hart_mem.specs.Paged.{flat, is_held, IsEmpty, AreHeld, KeepsPages, end_page, pages_touched};
+ghost use Rattle.hart_mem.specs.Paged.{flat, held_count, is_held, lacking, IsEmpty, AreHeld, TakesPages, end_page};
 
 use crate::number::number;
 use page_pool::{Frame, PAGE_BYTES, Pool, PoolFault};
@@ -63,9 +63,21 @@ impl PageMap {
         self.table[page].is_some()
     }
 
+    // How many of the pages from `first` up to `end` have no frame.
+    fn lacking(&self, first: usize, end: usize) -> usize
+        requires order { first ≤ end }
+        requires inside { end ≤ length self.now.table }
+        ensures { result ≡ lacking self.now first end }
+    {
+        self.table[first..end]
+            .iter()
+            .filter(|frame| frame.is_none())
+            .count()
+    }
+
     // The pool's bound leaves room for these, so the pool is never full.
     fn reserve_frames(&mut self, n: usize) -> Result<(), PoolFault>
-        requires { n ≤ 17 }
+        requires { held_count self.old + n ≤ length self.old.table + 17 }
         ensures never_full { result ≢ Err PoolFault.Full }
         ensures ok { OnOk result (self.new ≡ record self.old { pool = reserved self.old.pool n }) }
         ensures refused { OnErr result (self.new ≡ self.old) }
@@ -76,10 +88,9 @@ impl PageMap {
     /// Sees to it that at least `n` frames are spare.
     #[tactic(auto, unfolding(crate::specs::Paged::flat))]
     pub fn reserve(&mut self, n: usize) -> Result<(), NoMemory>
-        requires { n ≤ 17 }
+        requires { held_count self.old + n ≤ length self.old.table + 17 }
         ensures ok { OnOk result (self.new ≡ record self.old { pool = reserved self.old.pool n }) }
         ensures bytes { flat self.new ≡ flat self.old }
-        ensures more { self.old.pool.spare ≤ self.new.pool.spare }
         ensures refused { OnErr result (self.new ≡ self.old) }
     {
         match self.reserve_frames(n) {
@@ -93,11 +104,11 @@ impl PageMap {
     pub fn hold(&mut self, page: usize) -> bool
         requires { page < length self.old.table }
         ensures answer { result ≡ (is_held self.old page || nat_lt 0 self.old.pool.spare) }
-        ensures held { result ≡ true → IsTrue (is_held self.new page) }
+        ensures had { is_held self.old page ≡ true → self.new ≡ self.old }
         ensures refused { result ≡ false → self.new ≡ self.old }
+        ensures enough { result ≡ true → lacking self.old page (page + 1) ≤ self.old.pool.spare }
         ensures bytes { flat self.new ≡ flat self.old }
-        ensures pages { KeepsPages self.old self.new }
-        ensures spare { self.new.pool.spare ≡ (if is_held self.old page then self.old.pool.spare else self.old.pool.spare - 1) }
+        ensures pages { result ≡ true → TakesPages self.old self.new page (page + 1) }
     {
         if self.table[page].is_some() {
             return true;
@@ -188,37 +199,22 @@ impl PageMap {
         }
     }
 
-    /// Gives a page a frame, where it has none, and allocates one where none is spare.
-    fn obtain(&mut self, page: usize) -> Result<(), NoMemory>
-        requires { page < length self.old.table }
-        ensures held { OnOk result (IsTrue (is_held self.new page)) }
-        ensures short { OnErr result (self.old.pool.spare ≡ 0) }
-        ensures bytes { flat self.new ≡ flat self.old }
-        ensures pages { KeepsPages self.old self.new }
-        ensures spare { self.new.pool.spare ≡ (if is_held self.old page then self.old.pool.spare else self.old.pool.spare - 1) }
-    {
-        if self.hold(page) {
-            return Ok(());
-        }
-        self.reserve(1)?;
-        self.hold(page);
-        Ok(())
-    }
-
-    /// Gives each page from `first` up to `end` a frame. Where memory is wanting, some have one,
-    /// and the memory is the same.
+    /// Gives each page from `first` up to `end` a frame. All memory is taken first: where it is
+    /// wanting, nothing changes.
     pub fn obtain_all(&mut self, first: usize, end: usize) -> Result<(), NoMemory>
         requires order { first ≤ end }
         requires inside { end ≤ length self.old.table }
-        ensures held { OnOk result (AreHeld self.new first end) }
-        ensures short { OnErr result (self.old.pool.spare < end - first) }
+        ensures pages { OnOk result (TakesPages self.old self.new first end) }
         ensures bytes { flat self.new ≡ flat self.old }
-        ensures pages { KeepsPages self.old self.new }
-        ensures spare { self.old.pool.spare ≤ self.new.pool.spare + (end - first) }
-        ensures no_more { self.new.pool.spare ≤ self.old.pool.spare }
+        ensures refused { OnErr result (self.new ≡ self.old) }
+        ensures short { OnErr result (self.old.pool.spare < lacking self.old first end) }
     {
+        let lacking = self.lacking(first, end);
+        if self.spare() < lacking {
+            self.reserve(lacking)?;
+        }
         for page in first..end {
-            self.obtain(page)?;
+            self.hold(page);
         }
         Ok(())
     }
@@ -240,17 +236,16 @@ impl PageMap {
         }
     }
 
-    /// Writes bytes from a place on, and gives their pages frames. Where memory is wanting, the
-    /// memory is the same.
+    /// Writes some bytes from a place on, and gives their pages frames. Where memory is wanting, nothing
+    /// changes.
     pub fn fill(&mut self, place: usize, bytes: &[u8]) -> Result<(), NoMemory>
+        requires some { 0 < length bytes.now }
         requires inside { place + length bytes.now ≤ 4096 * length self.old.table }
         requires fits { place + length bytes.now < 2 ^ 62 }
         ensures ok { OnOk result (flat self.new ≡ written (flat self.old) place bytes.now) }
-        ensures err { OnErr result (flat self.new ≡ flat self.old) }
-        ensures short { OnErr result (self.old.pool.spare < pages_touched place (length bytes.now)) }
-        ensures pages { KeepsPages self.old self.new }
-        ensures spare { self.old.pool.spare ≤ self.new.pool.spare + pages_touched place (length bytes.now) }
-        ensures no_more { self.new.pool.spare ≤ self.old.pool.spare }
+        ensures pages { OnOk result (TakesPages self.old self.new (place / 4096) (end_page place (length bytes.now))) }
+        ensures refused { OnErr result (self.new ≡ self.old) }
+        ensures short { OnErr result (self.old.pool.spare < lacking self.old (place / 4096) (end_page place (length bytes.now))) }
     {
         let first = place / PAGE_BYTES;
         let end = (place + bytes.len() + (PAGE_BYTES - 1)) / PAGE_BYTES;

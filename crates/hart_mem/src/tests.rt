@@ -320,7 +320,7 @@ fn with_code(alloc: Global) -> Result<Mem, NoMemory> {
     let shadow = vec![in alloc; 1; 80]?;
     let helpers = vec![in alloc; 2; 282]?;
     let stub = vec![in alloc; 3; 71]?;
-    mem.set_code(shadow, helpers, stub);
+    mem.set_code(shadow, helpers, stub)?;
     Ok(mem)
 }
 

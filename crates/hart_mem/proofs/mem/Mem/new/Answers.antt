@@ -1,4 +1,4 @@
-use Rattle.std.proofs.Common.{◌≡◌, ◌≤◌, ap, arith}
+use Rattle.std.proofs.Common.{◌≡◌, ap, arith}
 use Rattle.page_pool.specs.Frames.{Frames}
 use Rattle.hart_mem.specs.Held.{Held, spare_of}
 use Rattle.hart_mem.proofs.MemLemmas.{empty_spaced, flat_new}
@@ -13,6 +13,5 @@ pub returns-clause-spare : goal.returns-clause-spare
 unfolding spare_of
 returns-clause-spare c =
     let none : c.in_ok-pages.pages.pool.spare ≡ 0 = ap (λ (p : Frames). p.spare) c.in_ok-pages.ensures.pool in
-    let no_more : c.obtain_all.new.self.pool.spare ≤ c.in_ok-pages.pages.pool.spare = c.obtain_all.ensures.no_more in
-    let e : c.obtain_all.new.self.pool.spare ≡ 0 = omega arith in
+    let e : c.obtain_all.new.self.pool.spare ≡ 0 = omega (arith, none, c.in_ok-obtain_all.ensures.pages.spare) in
     e

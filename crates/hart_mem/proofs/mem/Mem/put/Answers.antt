@@ -4,7 +4,7 @@ use Rattle.hart_mem.specs.Held.{spare_of}
 use Rattle.hart_mem.specs.Paged.{flat, is_held}
 use Rattle.hart_mem.specs.contracts.mem.Mem.{the_view}
 use Rattle.hart_mem.proofs.PlaceLemmas.{width_few}
-use Rattle.hart_mem.proofs.MemLemmas.{no_spare, piece_stored, put_fits, put_found, put_inside, put_kept, put_loads, spare_bounds, stored_space}
+use Rattle.hart_mem.proofs.MemLemmas.{no_spare, piece_stored, put_fits, put_found, put_inside, put_kept, put_loads, put_takes, put_uses, stored_space}
 use Rattle.hart_mem.proofs.mem.Mem.put.Goals as goal
 
 pub place_of-place-requires-clause-allowed : goal.place_of-place-requires-clause-allowed
@@ -45,14 +45,27 @@ returns-clause-ok c = λ _.
     let bytes = c.write_first.ensures.bytes ∙ ap (λ (m : Memory). written m c.place_of-place.result piece) c.hold.ensures.bytes ∙ piece_stored (flat c.self.inside.pages) c.place_of-place.result c.args.size c.args.value c.to_le_bytes-bytes.result (width_few c.args.size c.requires.size) c.to_le_bytes-bytes.ensures ∙ ap (λ (p : ℕ). stored (flat c.self.inside.pages) p c.args.size c.args.value) c.place_of-place.ensures in
     rw (← c.self.view_is) (stored_space (the_view c.self.inside) c.write_first.new.self c.self.invariant c.args.view c.args.address c.args.size c.args.value c.requires.size c.requires.aligned all bytes)
 
-pub returns-clause-spare : goal.returns-clause-spare
-unfolding spare_of
-returns-clause-spare c =
-    rw (← c.self.view_is) (spare_bounds (is_held c.self.inside.pages (c.place_of-place.result / 4096)) c.self.inside.pages.pool.spare c.write_first.new.self.pool.spare (c.write_first.ensures.spare ∙ c.hold.ensures.spare))
+pub returns-clause-pages : goal.returns-clause-pages
+returns-clause-pages c = λ _.
+    let all = rw (← c.self.view_is) at c.requires.allowed in
+    let had = rw c.place_of-place.ensures at c.hold.ensures.had in
+    let takes = rw c.place_of-place.ensures at c.hold.ensures.pages c.if-not-hold.false in
+    let enough = rw c.place_of-place.ensures at c.hold.ensures.enough c.if-not-hold.false in
+    rw (← c.self.view_is) (put_takes (the_view c.self.inside) c.self.invariant c.args.view c.args.address c.args.size c.requires.size all c.hold.new.self c.write_first.new.self had takes enough c.write_first.ensures.table c.write_first.ensures.spare)
+
+pub returns-clause-uses : goal.returns-clause-uses
+returns-clause-uses c = λ _.
+    let all = rw (← c.self.view_is) at c.requires.allowed in
+    let had = rw c.place_of-place.ensures at c.hold.ensures.had in
+    let takes = rw c.place_of-place.ensures at c.hold.ensures.pages c.if-not-hold.false in
+    let enough = rw c.place_of-place.ensures at c.hold.ensures.enough c.if-not-hold.false in
+    rw (← c.self.view_is) (put_uses (the_view c.self.inside) c.self.invariant c.args.view c.args.address c.args.size c.requires.size all c.hold.new.self c.write_first.new.self had takes enough c.write_first.ensures.table c.write_first.ensures.spare)
 
 pub returns-clause-kept : goal.returns-clause-kept
 unfolding spare_of
-returns-clause-kept c = λ shadow.
+returns-clause-kept c = λ none.
     let all = rw (← c.self.view_is) at c.requires.allowed in
-    let after = rw c.place_of-place.ensures at (c.write_first.ensures.spare ∙ c.hold.ensures.spare) in
-    rw (← c.self.view_is) (put_kept (the_view c.self.inside) c.self.invariant c.args.view c.args.address c.args.size c.requires.size all c.self.inside.pages.pool.spare c.write_first.new.self.pool.spare shadow after)
+    let had = rw c.place_of-place.ensures at c.hold.ensures.had in
+    let takes = rw c.place_of-place.ensures at c.hold.ensures.pages c.if-not-hold.false in
+    let enough = rw c.place_of-place.ensures at c.hold.ensures.enough c.if-not-hold.false in
+    rw (← c.self.view_is) (put_kept (the_view c.self.inside) c.self.invariant c.args.view c.args.address c.args.size c.requires.size all c.hold.new.self c.write_first.new.self had takes enough c.write_first.ensures.table c.write_first.ensures.spare none)

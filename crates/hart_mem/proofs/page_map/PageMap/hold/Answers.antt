@@ -3,7 +3,7 @@ use Rattle.std.proofs.lemmas.List.{get_or_read}
 use Rattle.page_pool.specs.Frames.{IsTaken}
 use Rattle.hart_mem.specs.Paged.{is_held}
 use Rattle.hart_mem.specs.contracts.page_map.PageMap.{the_view}
-use Rattle.hart_mem.proofs.PageLemmas.{flat-held, IsSound-held, KeepsPages-held}
+use Rattle.hart_mem.proofs.PageLemmas.{flat-held, IsSound-held, TakesPages-held}
 use Rattle.hart_mem.proofs.page_map.PageMap.hold.Goals as goal
 
 inside : (c : goal.After-self-1) → c.args.page < length c.self.inside.table.items
@@ -19,7 +19,7 @@ pub invariant_of-self-2 : goal.invariant_of-self-2
 invariant_of-self-2 c = IsSound-held (the_view c.self.inside) c.self.invariant c.take.new.self c.args.page c.in-Some.frame (inside c) (free c) (taken c)
 
 pub returns-clause-pages : goal.returns-clause-pages
-returns-clause-pages c = rw (← c.self.view_is) (KeepsPages-held (the_view c.self.inside) c.self.invariant c.take.new.self c.args.page c.in-Some.frame (inside c) (free c) (taken c))
+returns-clause-pages c = λ _. rw (← c.self.view_is) (TakesPages-held (the_view c.self.inside) c.self.invariant c.take.new.self c.args.page c.in-Some.frame (inside c) (free c) (taken c))
 
 pub returns-clause-bytes : goal.returns-clause-bytes
 returns-clause-bytes c = rw (← c.self.view_is) (flat-held (the_view c.self.inside) c.self.invariant c.take.new.self c.args.page c.in-Some.frame (inside c) (free c) (taken c))
