@@ -1,5 +1,5 @@
 -- The parts of a memory begin and end at multiples of 4, so that an aligned access is decided by its first and its last byte.
-use Rattle.std.proofs.Common.{◌≡◌, ℕ, ◌+◌, ◌-◌, ◌*◌, ◌/◌, ◌%◌, ◌<◌, ◌≤◌, Bool, true, false, not, ◌&&◌, ◌||◌, IsTrue, nat_le, nat_lt, refl, ap, arith, sym, ◌∙◌}
+use Rattle.std.proofs.Common.{Option, Some, None, ◌≡◌, ℕ, ◌+◌, ◌-◌, ◌*◌, ◌/◌, ◌%◌, ◌<◌, ◌≤◌, Bool, true, false, not, ◌&&◌, ◌||◌, IsTrue, nat_le, nat_lt, refl, ap, arith, sym, ◌∙◌}
 use Rattle.std.proofs.lemmas.Bool.Decides.{nat_tests}
 use Rattle.spec_base.specs.Layout.{range_end, image_limit, is_lawful}
 use Rattle.spec_base.specs.declared.layout.Version.{Version}
@@ -9,6 +9,7 @@ use Rattle.spec_base.specs.declared.machine.View.{View}
 use Rattle.spec_base.specs.declared.machine.View.TheVariants.{Plain, Program, Stub, Shadow}
 use Rattle.rv_model.specs.Memory.{is_within, all_from}
 use Rattle.rv_model.specs.Rights.{in_range, in_text, is_data, in_private, in_link, in_shared, list_bytes, rights_of}
+use Rattle.hart_mem.specs.Places.{found}
 use Rattle.hart_mem.specs.Access.{IsWidth, one, two, four, eight}
 
 -- ---- layouts
@@ -107,6 +108,10 @@ module _ (a b : ℕ) (word : a / 4 ≡ b / 4) where
 
 -- ---- aligned accesses
 
+two_same_once : (x : Bool) → (x && x) ≡ x
+two_same_once true = refl
+two_same_once false = refl
+
 two_same : (x : Bool) → (x && (x && true)) ≡ (x && x)
 two_same true = refl
 two_same false = refl
@@ -155,3 +160,76 @@ module _ (l : Layout) (lawful : IsLawful l) where
 
 pub data_inside : (l : Layout) → IsTrue (is_lawful l) → (a n : ℕ) → IsWidth n → a % n ≡ 0 → in_range l a ≡ true → (nat_lt (a + (n - 1)) l.text_start || nat_le l.text_end a) ≡ all_from (is_data l) a n
 data_inside l lawful a n w e inside = text_apart l (lawful_is l lawful) a n w e ∙ (let last : in_range l (a + (n - 1)) ≡ true = in_range_last l a n w e inside in cc) ∙ sym (loads_all Plain l lawful a n w e)
+
+-- ---- the parts of the stub and of the shadow begin and end at multiples of 8
+
+module _ (a b : ℕ) (grain : a / 8 ≡ b / 8) where
+  le_eight : (base : ℕ) → base % 8 ≡ 0 → nat_le base a ≡ nat_le base b
+  le_eight base e = grind (arith, nat_tests)
+
+  lt_eight : (end : ℕ) → end % 8 ≡ 0 → nat_lt a end ≡ nat_lt b end
+  lt_eight end e = grind (arith, nat_tests)
+
+  both_eight : (p q p' q' : Bool) → p ≡ p' → q ≡ q' → (p && q) ≡ (p' && q')
+  both_eight p q p' q' e f = cc
+
+  either_eight : (p q p' q' : Bool) → p ≡ p' → q ≡ q' → (p || q) ≡ (p' || q')
+  either_eight p q p' q' e f = cc
+
+  within_eight : (base n : ℕ) → base % 8 ≡ 0 → n % 8 ≡ 0 → is_within base n a ≡ is_within base n b
+  within_eight base n e f = both_eight _ _ _ _ (le_eight base e) (lt_eight (base + n) (omega arith))
+
+  private_eight : in_private a ≡ in_private b
+  private_eight = within_eight 0xFFFF_FFFF_FFFF_F800 2048 refl refl
+
+  link_eight : in_link a ≡ in_link b
+  link_eight = within_eight 0x4200_0000 0x2000 refl refl
+
+  shared_eight : (l : Layout) → in_shared l a ≡ in_shared l b
+  shared_eight l =
+      either_eight _ _ _ _ link_eight (
+      either_eight _ _ _ _ (within_eight 0x4300_0000 (range_end l.version / 64) refl (omega (arith, table-pages l.version))) (
+      either_eight _ _ _ _ (within_eight 0x4400_0000 (list_bytes l) refl (omega arith)) (within_eight 0x4500_0000 (256 * l.regions) refl (omega arith))))
+
+  stub_eight : (in_private a || in_link a) ≡ (in_private b || in_link b)
+  stub_eight = either_eight _ _ _ _ private_eight link_eight
+
+  shadow_store_eight : (l : Layout) → (rights_of Shadow l).store a ≡ (rights_of Shadow l).store b
+  shadow_store_eight l = either_eight _ _ _ _ private_eight (shared_eight l)
+
+  shadow_load_eight : (l : Layout) → (rights_of Shadow l).load a ≡ (rights_of Shadow l).load b
+  shadow_load_eight l =
+      either_eight _ _ _ _ private_eight (
+      either_eight _ _ _ _ (shared_eight l) (both_eight _ _ _ _ (le_eight 0x1000 refl) (lt_eight (range_end l.version) (omega (arith, range_end-pages l.version)))))
+
+last_eight : (a n : ℕ) → IsWidth n → a % n ≡ 0 → a / 8 ≡ (a + (n - 1)) / 8
+last_eight a _ one e = omega arith
+last_eight a _ two e = omega arith
+last_eight a _ four e = omega arith
+last_eight a _ eight e = omega arith
+
+module _ (l : Layout) (lawful : IsTrue (is_lawful l)) (a n : ℕ) (w : IsWidth n) (e : a % n ≡ 0) where
+  pub stub_loads_all : all_from (rights_of Stub l).load a n ≡ (rights_of Stub l).load a
+  stub_loads_all =
+      let last : (rights_of Stub l).load a ≡ (rights_of Stub l).load (a + (n - 1)) = stub_eight a (a + (n - 1)) (last_eight a n w e) in
+      loads_all Stub l lawful a n w e ∙ rw (← last) (two_same_once ((rights_of Stub l).load a))
+
+  pub shadow_loads_all : all_from (rights_of Shadow l).load a n ≡ (rights_of Shadow l).load a
+  shadow_loads_all =
+      let last : (rights_of Shadow l).load a ≡ (rights_of Shadow l).load (a + (n - 1)) = shadow_load_eight a (a + (n - 1)) (last_eight a n w e) l in
+      loads_all Shadow l lawful a n w e ∙ rw (← last) (two_same_once ((rights_of Shadow l).load a))
+
+  pub shadow_stores_all : all_from (rights_of Shadow l).store a n ≡ (rights_of Shadow l).store a
+  shadow_stores_all =
+      let last : (rights_of Shadow l).store a ≡ (rights_of Shadow l).store (a + (n - 1)) = shadow_store_eight a (a + (n - 1)) (last_eight a n w e) l in
+      stores_all Shadow l lawful a n w e ∙ rw (← last) (two_same_once ((rights_of Shadow l).store a))
+
+-- ---- a place that is found
+
+pub found-some : (t : Bool) (p q : ℕ) → Some q ≡ found t p → (t ≡ true) × (q ≡ p)
+found-some true p q e = (refl, grind arith)
+found-some false p q e = absurd (grind arith)
+
+pub found-none : (t : Bool) (p : ℕ) → (let none : Option ℕ = None in none) ≡ found t p → t ≡ false
+found-none true p e = absurd (grind arith)
+found-none false p e = refl

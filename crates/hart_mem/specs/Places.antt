@@ -1,5 +1,5 @@
 -- Where each part of a memory stands in its pages: the program range at its own addresses, after it the two private pages, the link, the region table, the region list and the copies (this project's own).
-use Rattle.std.specs.Prelude.{ℕ, ◌+◌, ◌-◌, ◌*◌, ◌/◌, Bool, true, false, nat_lt}
+use Rattle.std.specs.Prelude.{Option, Some, None, ℕ, ◌+◌, ◌-◌, ◌*◌, ◌/◌, Bool, true, false, nat_lt}
 use Rattle.spec_base.specs.Layout.{range_end, link_start, table_start, list_start, copies_start, private_start, private_bytes}
 use Rattle.spec_base.specs.declared.layout.Layout.{Layout}
 use Rattle.spec_base.specs.declared.machine.View.{View}
@@ -51,3 +51,8 @@ place_of Shadow l a = shadow_spot (in_private a) (in_range l a) l a
 -- how many pages all of them take
 abbrev pub page_count : Layout → ℕ
 page_count l = (copies_place l + 256 * l.regions) / 4096 + 1
+
+-- a place, where a test holds
+abbrev pub found : Bool → ℕ → Option ℕ
+found true place = Some place
+found false place = None

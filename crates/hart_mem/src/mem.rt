@@ -9,13 +9,14 @@ ghost use Rattle.rv_model.specs.Rights.{is_data, in_range, rights_of};
 ghost use Rattle.rv_model.specs.Space.{program_byte, sees, stored_in, word_at};
 ghost use Rattle.program_model.specs.Loading.{data_of};
 ghost use Rattle.hart_mem.specs.Access.{IsWidth, width_bytes};
+ghost use Rattle.hart_mem.specs.Places.{place_of};
 ghost use Rattle.hart_mem.specs.Paged.{TakesPages, end_page};
 ghost use Rattle.hart_mem.specs.Held.{IsOffText, UsesSpare, data_byte, empty_space, lacks_frame, load_answer, shadow_words, most_frames, pages_stored, pages_wanted, space_of, spare_of, store_answer, text_words};
 
 use crate::access::{Access, StoreFault, Width};
 use crate::code::Code;
 use crate::page_map::PageMap;
-use crate::rights::{is_all_data, is_data, is_in_text, may_load_all, may_store_all, page_count, place_of};
+use crate::rights::{find_to_load, find_to_store, is_all_data, is_data, is_in_text, page_count};
 use rv_decode::Instr;
 use rv_model::Bytes;
 use spec_base::{
@@ -209,59 +210,63 @@ impl Mem {
         if address % size != 0 {
             return Err(Access::Unaligned);
         }
-        if !may_load_all(view, &self.layout, address, size) {
-            return Err(Access::Out);
+        match find_to_load(view, &self.layout, address, size) {
+            Some(place) => Ok(self.number(view, address, place, size)),
+            None => Err(Access::Out),
         }
-        Ok(self.number(view, address, size))
     }
 
-    // The number of bytes that the view loads.
+    // The number of bytes that the view loads, and their place.
     #[inline(always)]
-    fn number(&self, view: View, address: u64, size: u64) -> u64
+    fn number(&self, view: View, address: u64, place: u64, size: u64) -> u64
         requires size { IsWidth size }
         requires aligned { address % size ≡ 0 }
+        requires place { place ≡ place_of view self.now.layout address }
         requires allowed { IsTrue (all_from (rights_of view self.now.layout).load address size) }
         ensures value { result ≡ loaded (sees view (space_of self.now)) address size }
         ensures bound { result < 2 ^ (8 * size) }
         ensures bytes { (i : ℕ) → i < size → sees view (space_of self.now) (address + i) < 256 }
     {
         match view {
-            View::Shadow => self.shadow_number(address, size),
-            View::Plain | View::Program | View::Stub => self.page_number(view, address, size),
+            View::Shadow => self.shadow_number(address, place, size),
+            View::Plain | View::Program | View::Stub => {
+                self.page_number(view, address, place, size)
+            }
         }
     }
 
     // As `number`, for the shadow, which loads the text too.
     #[inline(never)]
-    fn shadow_number(&self, address: u64, size: u64) -> u64
+    fn shadow_number(&self, address: u64, place: u64, size: u64) -> u64
         requires size { IsWidth size }
         requires aligned { address % size ≡ 0 }
+        requires place { place ≡ place_of View.Shadow self.now.layout address }
         requires allowed { IsTrue (all_from (rights_of View.Shadow self.now.layout).load address size) }
         ensures value { result ≡ loaded (sees View.Shadow (space_of self.now)) address size }
         ensures bound { result < 2 ^ (8 * size) }
         ensures bytes { (i : ℕ) → i < size → sees View.Shadow (space_of self.now) (address + i) < 256 }
     {
         if self.layout.text_end <= address {
-            return self.page_number(View::Shadow, address, size);
+            return self.page_number(View::Shadow, address, place, size);
         }
         if address + (size - 1) < self.layout.text_start {
-            return self.page_number(View::Shadow, address, size);
+            return self.page_number(View::Shadow, address, place, size);
         }
         self.text_number(address, size)
     }
 
     // As `number`, for bytes of which none is of the text.
     #[inline(always)]
-    fn page_number(&self, view: View, address: u64, size: u64) -> u64
+    fn page_number(&self, view: View, address: u64, place: u64, size: u64) -> u64
         requires size { IsWidth size }
         requires aligned { address % size ≡ 0 }
+        requires place { place ≡ place_of view self.now.layout address }
         requires allowed { IsTrue (all_from (rights_of view self.now.layout).load address size) }
         requires off { view ≡ View.Shadow → IsOffText self.now.layout address size }
         ensures value { result ≡ loaded (sees view (space_of self.now)) address size }
         ensures bound { result < 2 ^ (8 * size) }
         ensures bytes { (i : ℕ) → i < size → sees view (space_of self.now) (address + i) < 256 }
     {
-        let place = place_of(view, &self.layout, address);
         self.pages.load(place as usize, size as usize)
     }
 
@@ -320,10 +325,10 @@ impl Mem {
         if address % size != 0 {
             return Err(StoreFault::Unaligned);
         }
-        if !may_store_all(view, &self.layout, address, size) {
+        let Some(place) = find_to_store(view, &self.layout, address, size) else {
             return Err(StoreFault::Out);
-        }
-        if !self.put(view, address, size, value) {
+        };
+        if !self.put(view, address, place, size, value) {
             return Err(StoreFault::NoMemory);
         }
         Ok(())
@@ -332,9 +337,10 @@ impl Mem {
     // Stores the lowest bytes of a value that the view may store. False, and nothing changes,
     // where their page has no frame and none is spare.
     #[inline(always)]
-    fn put(&mut self, view: View, address: u64, size: u64, value: u64) -> bool
+    fn put(&mut self, view: View, address: u64, place: u64, size: u64, value: u64) -> bool
         requires size { IsWidth size }
         requires aligned { address % size ≡ 0 }
+        requires place { place ≡ place_of view self.old.layout address }
         requires allowed { IsTrue (all_from (rights_of view self.old.layout).store address size) }
         ensures answer { result ≡ not (lacks_frame view self.old address) }
         ensures ok { result ≡ true → space_of self.new ≡ stored_in view (space_of self.old) address size value }
@@ -344,12 +350,11 @@ impl Mem {
         ensures uses { result ≡ true → UsesSpare self.old self.new }
         ensures kept { pages_stored view ≡ 0 → spare_of self.new ≡ spare_of self.old }
     {
-        let place = place_of(view, &self.layout, address) as usize;
-        if !self.pages.hold(place / 4096) {
+        if !self.pages.hold(place as usize / 4096) {
             return false;
         }
         let bytes = value.to_le_bytes();
-        self.pages.write_first(place, &bytes, size as usize);
+        self.pages.write_first(place as usize, &bytes, size as usize);
         true
     }
 

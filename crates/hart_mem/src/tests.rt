@@ -2,8 +2,10 @@
 //! expected values are those of the layout's table.
 
 ghost use Rattle.std.specs.Prelude.{◌≡◌};
+ghost use Rattle.hart_mem.specs.Held.{space_of};
 
 use crate::{Access, Bytes, Mem, StoreFault, Width};
+use rv_decode::decode;
 use spec_base::{Layout, NoMemory, Version, View};
 use std::alloc::Global;
 use std::process::Abort;
@@ -178,24 +180,79 @@ fn version_one_ends_lower(rt: HostRuntime) {
     assert!(rt; all_touched(&mut mem, View::Shadow, &out, false, false));
 }
 
-// Whether a load and a store are both refused as not aligned.
-fn is_unaligned(mem: &mut Mem, address: u64, width: Width) -> bool {
-    mem.load(View::Plain, address, width) == Err(Access::Unaligned)
-        && mem.store(View::Plain, address, width, 1) == Err(StoreFault::Unaligned)
+// Each width, and the number that it stores of the bytes 0x11 to 0x88.
+const WIDTHS: [(Width, u64, u64); 4] = [
+    (Width::One, 1, 0x11),
+    (Width::Two, 2, 0x2211),
+    (Width::Four, 4, 0x4433_2211),
+    (Width::Eight, 8, 0x8877_6655_4433_2211),
+];
+
+// Whether a store of each width changes that many bytes, and is loaded again.
+fn stores_widths(mem: &mut Mem, view: View, address: u64) -> bool {
+    for (width, _, number) in &WIDTHS {
+        if mem.store(view, address, Width::Eight, 0) != Ok(())
+            || mem.store(view, address, *width, 0x8877_6655_4433_2211) != Ok(())
+            || mem.load(view, address, Width::Eight) != Ok(*number)
+            || mem.load(view, address, *width) != Ok(*number)
+        {
+            return false;
+        }
+    }
+    true
 }
 
+// Whether loads and stores of each width are refused as not aligned one past a multiple of it.
+fn refuses_unaligned(mem: &mut Mem, view: View, address: u64) -> bool {
+    for (width, size, _) in &WIDTHS {
+        let aligned = *size == 1;
+        if (mem.load(view, address + 1, *width) == Err(Access::Unaligned)) == aligned
+            || (mem.store(view, address + 1, *width, 1) == Err(StoreFault::Unaligned)) == aligned
+        {
+            return false;
+        }
+    }
+    true
+}
+
+// Whether a part ends here: each width can be stored right before, and none here.
+fn ends_at(mem: &mut Mem, view: View, end: u64) -> bool {
+    for (width, size, _) in &WIDTHS {
+        if mem.store(view, end - *size, *width, 1) != Ok(())
+            || mem.load(view, end - *size, *width) != Ok(1)
+            || mem.store(view, end, *width, 1) != Err(StoreFault::Out)
+            || mem.load(view, end, *width) != Err(Access::Out)
+        {
+            return false;
+        }
+    }
+    true
+}
+
+// A place in each view, and where its part ends.
+const PARTS: [(View, u64, u64); 6] = [
+    (View::Plain, 0x2000, 0x4000_0000),
+    (View::Program, 0x2000, 0x4000_0000),
+    (View::Stub, 0x4200_0000, 0x4200_2000),
+    (View::Shadow, 0x4300_0000, 0x4400_0000),
+    (View::Shadow, 0x4400_0000, 0x4400_0018),
+    (View::Shadow, 0x4500_0000, 0x4500_0300),
+];
+
 #[test]
-fn refuses_what_is_not_aligned(rt: HostRuntime) {
+fn takes_each_width_in_each_view(rt: HostRuntime) {
     let Ok(mut mem) = made(rt.alloc(), Version::Two) else {
         panic!(rt; "no memory");
     };
-    for i in 1..8 {
-        assert!(rt; is_unaligned(&mut mem, 0x2000 + i, Width::Eight));
+    for (view, address, end) in &PARTS {
+        assert!(rt; stores_widths(&mut mem, *view, *address));
+        assert!(rt; refuses_unaligned(&mut mem, *view, *address));
+        if *end != 0x4400_0000 {
+            assert!(rt; ends_at(&mut mem, *view, *end));
+        }
     }
-    for i in 1..4 {
-        assert!(rt; is_unaligned(&mut mem, 0x2000 + i, Width::Four));
-    }
-    assert!(rt; is_unaligned(&mut mem, 0xFFF, Width::Two));
+    assert!(rt; stores_widths(&mut mem, View::Stub, 0xFFFF_FFFF_FFFF_FFF8));
+    assert!(rt; stores_widths(&mut mem, View::Shadow, 0xFFFF_FFFF_FFFF_FFF8));
 }
 
 // Stores at eight places, each in a page of its own, and one in a page that is held.
@@ -313,14 +370,22 @@ fn loads_a_part_around_the_text(rt: HostRuntime) {
     assert!(rt; has_the_part_around_the_text(&mem));
 }
 
-// Code of ones, twos and threes: 16 words for each of the text's four and for the guard block, the
-// helpers, and the stub.
+// Gives code: so many words of the shadow's text, 16 for each of the text's four and for the guard
+// block, and those of the helpers and of the stub.
+fn give(alloc: Global, mem: &mut Mem, words: [u32; 3]) -> Result<(), NoMemory>
+    requires { (space_of mem.old).layout ≡ record { text_start = 0x1_0004; text_end = 0x1_0014; regions = 3; version = Version.Two } }
+{
+    let shadow = vec![in alloc; words[0]; 80]?;
+    let helpers = vec![in alloc; words[1]; 282]?;
+    let stub = vec![in alloc; words[2]; 71]?;
+    mem.set_code(shadow, helpers, stub)
+}
+
+// A memory that was given code twice.
 fn with_code(alloc: Global) -> Result<Mem, NoMemory> {
     let mut mem = Mem::new(alloc, layout(Version::Two), vec![in alloc; 1, 2, 3, 4]?)?;
-    let shadow = vec![in alloc; 1; 80]?;
-    let helpers = vec![in alloc; 2; 282]?;
-    let stub = vec![in alloc; 3; 71]?;
-    mem.set_code(shadow, helpers, stub)?;
+    give(alloc, &mut mem, [4, 5, 6])?;
+    give(alloc, &mut mem, [1, 2, 3])?;
     Ok(mem)
 }
 
@@ -337,6 +402,10 @@ fn fetches_code(mem: &Mem, shadow: u32, helper: u32, stub: u32) -> bool {
         && mem.fetch(View::Stub, 0x4180_011C) == None
         && mem.fetch(View::Stub, 0x4180_0002) == None
         && mem.fetch(View::Plain, 0x4000_0000) == None
+        && mem.instr_at(View::Shadow, 0x4000_013C) == Some(decode(shadow))
+        && mem.instr_at(View::Shadow, 0x4110_0464) == Some(decode(helper))
+        && mem.instr_at(View::Stub, 0x4180_0118) == Some(decode(stub))
+        && mem.instr_at(View::Stub, 0x4180_011C) == None
 }
 
 #[test]
@@ -349,4 +418,60 @@ fn fetches_the_code_that_is_given(rt: HostRuntime) {
     };
     assert!(rt; fetches_code(&before, 0, 0, 0));
     assert!(rt; fetches_code(&mem, 1, 2, 3));
+}
+
+// A text of one word, 4 below a multiple of 8.
+fn one_word(alloc: Global) -> Result<Mem, NoMemory> {
+    let layout = Layout {
+        text_start: 0x1004,
+        text_end: 0x1008,
+        regions: 1,
+        version: Version::Two,
+    };
+    let mut mem = Mem::new(alloc, layout, vec![in alloc; 0x0070_0093]?)?;
+    mem.load_part(0x1000, &[9; 16])?;
+    Ok(mem)
+}
+
+fn has_one_word(mem: &Mem) -> bool {
+    mem.fetch(View::Plain, 0x1000) == None
+        && mem.instr_at(View::Plain, 0x1004) == Some(decode(0x0070_0093))
+        && mem.instr_at(View::Plain, 0x1008) == None
+        && mem.load(View::Plain, 0x1000, Width::Four) == Ok(0x0909_0909)
+        && mem.load(View::Plain, 0x1000, Width::Eight) == Err(Access::Out)
+        && mem.load(View::Plain, 0x1008, Width::Eight) == Ok(0x0909_0909_0909_0909)
+        && mem.load(View::Shadow, 0x1000, Width::Eight) == Ok(0x0070_0093_0909_0909)
+}
+
+#[test]
+fn a_text_can_be_one_word(rt: HostRuntime) {
+    let Ok(mem) = one_word(rt.alloc()) else {
+        panic!(rt; "no memory");
+    };
+    assert!(rt; has_one_word(&mem));
+}
+
+// The bytes 1 to 8 stand over a page's end, and the text from 0x1_0004 up to 0x1_0014.
+fn gives_stretches(mem: &Mem) -> bool {
+    mem.is_all_data(0x1_0000, 4)
+        && !mem.is_all_data(0x1_0000, 5)
+        && !mem.is_all_data(0x1_0010, 5)
+        && mem.is_all_data(0x1_0014, 0x3FFE_FFEC)
+        && !mem.is_all_data(0x1_0014, 0x3FFE_FFED)
+        && !mem.is_all_data(0xFFF, 1)
+        && !mem.is_all_data(0xFFFF_FFFF_FFFF_FFFF, 2)
+        && mem.is_all_data(0xFFF, 0)
+}
+
+#[test]
+fn copies_over_the_end_of_a_page(rt: HostRuntime) {
+    let Ok(mem) = filled(rt.alloc()) else {
+        panic!(rt; "no memory");
+    };
+    assert!(rt; gives_stretches(&mem));
+    let mut bytes = [7u8; 12];
+    if mem.is_all_data(0x2_0FFA, 12) {
+        mem.copy_to(0x2_0FFA, &mut bytes);
+    }
+    assert_eq!(rt; bytes, [0, 0, 1, 2, 3, 4, 5, 6, 7, 8, 0, 0]);
 }

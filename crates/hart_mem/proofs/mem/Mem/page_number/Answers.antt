@@ -6,11 +6,6 @@ use Rattle.hart_mem.specs.contracts.mem.Mem.{the_view}
 use Rattle.hart_mem.proofs.MemLemmas.{byte_seen, first_right, in_page, inside_pages, number_seen}
 use Rattle.hart_mem.proofs.mem.Mem.page_number.Goals as goal
 
-pub place_of-place-requires-clause-allowed : goal.place_of-place-requires-clause-allowed
-place_of-place-requires-clause-allowed c =
-    let all = rw (← c.self.view_is) at c.requires.allowed in
-    first_right (the_view c.self.inside) c.self.invariant (rights_of c.args.view c.self.inside.layout).load c.args.address c.args.size c.requires.size all
-
 pub load-requires-clause-size : goal.load-requires-clause-size
 load-requires-clause-size c = c.requires.size
 
@@ -18,23 +13,27 @@ pub load-requires-clause-inside : goal.load-requires-clause-inside
 load-requires-clause-inside c =
     let all = rw (← c.self.view_is) at c.requires.allowed in
     let first : IsTrue ((rights_of c.args.view c.self.inside.layout).load c.args.address) = first_right (the_view c.self.inside) c.self.invariant (rights_of c.args.view c.self.inside.layout).load c.args.address c.args.size c.requires.size all in
-    rw c.place_of-place.ensures (inside_pages (the_view c.self.inside) c.self.invariant c.args.view c.args.address first)
+    let place = rw (← c.self.view_is) at c.requires.place in
+    rw place (inside_pages (the_view c.self.inside) c.self.invariant c.args.view c.args.address first)
 
 pub load-requires-clause-fits : goal.load-requires-clause-fits
 load-requires-clause-fits c =
     let all = rw (← c.self.view_is) at c.requires.allowed in
     let first : IsTrue ((rights_of c.args.view c.self.inside.layout).load c.args.address) = first_right (the_view c.self.inside) c.self.invariant (rights_of c.args.view c.self.inside.layout).load c.args.address c.args.size c.requires.size all in
-    rw c.place_of-place.ensures (in_page (the_view c.self.inside) c.self.invariant c.args.view c.args.address first c.args.size c.requires.size c.requires.aligned)
+    let place = rw (← c.self.view_is) at c.requires.place in
+    rw place (in_page (the_view c.self.inside) c.self.invariant c.args.view c.args.address first c.args.size c.requires.size c.requires.aligned)
 
 pub returns-clause-value : goal.returns-clause-value
 returns-clause-value c =
     let all = rw (← c.self.view_is) at c.requires.allowed in
     let off = rw (← c.self.view_is) at c.requires.off in
-    rw (← c.self.view_is) (c.load.ensures.value ∙ ap (λ (p : ℕ). loaded (flat c.self.inside.pages) p c.args.size) c.place_of-place.ensures ∙ number_seen (the_view c.self.inside) c.self.invariant c.args.view c.args.address c.args.size c.requires.size c.requires.aligned all off)
+    let place = rw (← c.self.view_is) at c.requires.place in
+    rw (← c.self.view_is) (c.load.ensures.value ∙ ap (λ (p : ℕ). loaded (flat c.self.inside.pages) p c.args.size) place ∙ number_seen (the_view c.self.inside) c.self.invariant c.args.view c.args.address c.args.size c.requires.size c.requires.aligned all off)
 
 pub returns-clause-bytes : goal.returns-clause-bytes
 returns-clause-bytes c = λ i h.
     let all = rw (← c.self.view_is) at c.requires.allowed in
     let off = rw (← c.self.view_is) at c.requires.off in
-    let small = rw c.place_of-place.ensures at c.load.ensures.bytes in
+    let place = rw (← c.self.view_is) at c.requires.place in
+    let small = rw place at c.load.ensures.bytes in
     rw (← c.self.view_is, byte_seen (the_view c.self.inside) c.self.invariant c.args.view c.args.address c.args.size c.requires.size c.requires.aligned all off i h) (small i h)
