@@ -10,6 +10,11 @@ use Rattle.file_calls.specs.declared.call.Call.{Call}
 use Rattle.file_calls.specs.declared.call.Call.TheVariants as call
 use Rattle.file_calls.specs.declared.plan.CallPlan.{CallPlan}
 use Rattle.file_calls.specs.declared.plan.CallPlan.TheVariants as plan
+use Rattle.file_calls.specs.declared.change.Change.{Change}
+use Rattle.file_calls.specs.declared.change.Change.TheVariants.{Nothing, Slot, MoveBreak}
+use Rattle.file_calls.specs.declared.plan.PlannedCall.{PlannedCall}
+use Rattle.file_calls.specs.declared.plan.PlannedCall.TheVariants as planned
+use Rattle.file_calls.specs.Shown.{shown}
 
 -- the calls that have a number
 abbrev pub call_shown : Call → CallKind
@@ -22,6 +27,30 @@ call_shown call.Write = WriteFile
 call_shown call.Exit = ExitProgram
 call_shown call.Break = Break
 call_shown call.Unknown = Unknown
+
+-- what a change makes of the descriptors and the break
+abbrev pub changed : Descriptors → Change → Descriptors
+changed f Nothing = f
+changed f (Slot number slot) = with_slot f number (shown slot)
+changed f (MoveBreak to) = record f { break_at = to }
+
+-- the break stays within its bound
+abbrev pub KeepsBreak : Descriptors → Change → Type 0
+KeepsBreak f (MoveBreak to) = to ≤ f.break_most
+KeepsBreak f other = Unit {0}
+
+-- a plan whose change is made
+abbrev pub made : Descriptors → PlannedCall → CallPlan
+made f (planned.Set change answer) = plan.Set (changed f change) answer
+made f (planned.Open name) = plan.Open name
+made f (planned.Read spot address) = plan.Read spot address
+made f (planned.Write to_out address count) = plan.Write to_out address count
+made f (planned.Exit code) = plan.Exit code
+
+-- the change of a plan keeps the break within its bound
+abbrev pub PlanKeepsBreak : Descriptors → PlannedCall → Type 0
+PlanKeepsBreak f (planned.Set change answer) = KeepsBreak f change
+PlanKeepsBreak f other = Unit {0}
 
 -- a plan of the code, for a call whose first argument is d
 abbrev pub plan_shown : ℕ → CallPlan → calls.CallPlan

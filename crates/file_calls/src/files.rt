@@ -4,8 +4,10 @@ ghost use Rattle.std.specs.List.{position_from};
 ghost use Rattle.std.specs.Prelude.{◌≡◌, ◌≤◌, ◌<◌, ◌^◌, length, IfSome};
 ghost use Rattle.program_model.specs.Calls as calls;
 ghost use Rattle.program_model.specs.Descriptors.{Free, slot, with_slot, start_of, lowest_free};
+ghost use Rattle.file_calls.specs.Plans.{changed, KeepsBreak};
 ghost use Rattle.file_calls.specs.Shown.{shown, is_free};
 
+use crate::change::Change;
 use crate::descriptor::Descriptor;
 use std::marker::Model;
 
@@ -67,15 +69,25 @@ impl Files {
         }
     }
 
-    /// The same with this descriptor changed; there is none of 32 or more.
-    pub(crate) fn with_slot(&self, number: u64, slot: Descriptor) -> Files
-        ensures { result ≡ with_slot self.now number (shown slot) }
+    // Changes this descriptor; there is none of 32 or more.
+    fn set_slot(&mut self, number: u64, slot: Descriptor)
+        ensures { self.new ≡ with_slot self.old number (shown slot) }
     {
-        let mut files = *self;
         if number < 32 {
-            files.slots[number as usize] = slot;
+            self.slots[number as usize] = slot;
         }
-        files
+    }
+
+    /// Makes the change of a call, in place.
+    pub fn make(&mut self, change: Change)
+        requires { KeepsBreak self.old change }
+        ensures { self.new ≡ changed self.old change }
+    {
+        match change {
+            Change::Nothing => {}
+            Change::Slot(number, slot) => self.set_slot(number, slot),
+            Change::MoveBreak(to) => self.break_at = to,
+        }
     }
 
     /// The lowest free descriptor.
@@ -87,15 +99,14 @@ impl Files {
     }
 
     /// The break moved to this address, if it may stand there, and the break after that.
-    pub(crate) fn with_break(&self, to: u64) -> (Files, i64)
-        ensures { calls.Set result.0 result.1 ≡ calls.break_plan self.now to }
+    pub(crate) fn moved_break(&self, to: u64) -> (Change, i64)
+        ensures plan { calls.Set (changed self.now result.0) result.1 ≡ calls.break_plan self.now to }
+        ensures kept { KeepsBreak self.now result.0 }
     {
         if self.break_start <= to && to <= self.break_most {
-            let mut files = *self;
-            files.break_at = to;
-            (files, to as i64)
+            (Change::MoveBreak(to), to as i64)
         } else {
-            (*self, self.break_at as i64)
+            (Change::Nothing, self.break_at as i64)
         }
     }
 }

@@ -4,6 +4,7 @@
 
 mod answers;
 mod call;
+mod change;
 mod descriptor;
 mod files;
 mod memory;
@@ -11,5 +12,6 @@ mod plan;
 #[cfg(test)]
 mod tests;
 
+pub use change::Change;
 pub use files::Files;
-pub use plan::CallPlan;
+pub use plan::{CallPlan, PlannedCall};

@@ -1,5 +1,5 @@
 use Rattle.std.specs.Prelude.{slice_index}
-use Rattle.file_calls.proofs.files.Files.plan.Goals as goal
+use Rattle.file_calls.proofs.files.Files.planned.Goals as goal
 
 pub returns-in-Open-clause-bounds : goal.returns-in-Open-clause-bounds
 returns-in-Open-clause-bounds g c = c.open_plan.ensures.bounds (slice_index c.args.a 0)

@@ -1,5 +1,0 @@
-use Rattle.std.proofs.lemmas.List.{map-set}
-use Rattle.file_calls.proofs.files.Files.with_slot.Goals as goal
-
-pub returns-then-number-lt32 : goal.returns-then-number-lt32
-returns-then-number-lt32 c = rw (← c.files.view_is, map-set)
