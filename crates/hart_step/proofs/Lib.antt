@@ -1,3 +1,5 @@
 pub mod Registers
+mod Spares
 mod Starved
 mod Stores
+mod Views

@@ -7,7 +7,7 @@ use Rattle.spec_base.specs.declared.machine.Trap.TheVariants as trap
 use Rattle.rv_model.specs.Effect.{Stored, Trapped, store_if}
 use Rattle.hart_mem.specs.declared.access.StoreFault.{StoreFault}
 use Rattle.hart_mem.specs.declared.access.StoreFault.TheVariants as fault
-use Rattle.hart_mem.specs.Held.{Held, lacks_frame, spare_of, store_answer_if as answer_if}
+use Rattle.hart_mem.specs.Held.{Held, lacks_frame, pages_stored, spare_of, store_answer_if as answer_if}
 
 -- the memory is willing
 pub store_made : (aligned inside lacks : Bool) (a width v : ℕ) → answer_if aligned inside lacks ≡ Ok tt → (store_if aligned inside a width v ≡ Stored a width v) × (lacks ≡ false)
@@ -37,3 +37,11 @@ none_spare Plain h a q = grind (arith, nat_tests)
 none_spare Program h a q = grind (arith, nat_tests)
 none_spare Stub h a q = cc
 none_spare Shadow h a q = cc
+
+-- in the stub's and in the shadow's view no store wants a frame
+pub none_lacks : (v : View) (h : Held) (a : ℕ) → pages_stored v ≡ 0 → lacks_frame v h a ≡ true → ⊥
+unfolding lacks_frame
+none_lacks Plain h a none q = omega arith
+none_lacks Program h a none q = omega arith
+none_lacks Stub h a none q = cc
+none_lacks Shadow h a none q = cc

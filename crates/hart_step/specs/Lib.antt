@@ -1,3 +1,4 @@
 pub mod Core
 pub mod Step
+pub mod Flows
 pub mod Steps

@@ -3,9 +3,11 @@
 
 mod arithmetic;
 mod event;
+mod flow;
+mod gates;
 mod hart;
-mod stepping;
 mod running;
+mod stepping;
 #[cfg(test)]
 mod tests;
 #[cfg(test)]
@@ -13,5 +15,5 @@ mod vectors;
 
 pub use event::Event;
 pub use hart::Hart;
-pub use stepping::step;
 pub use running::steps;
+pub use stepping::step;

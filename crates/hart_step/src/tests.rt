@@ -1,7 +1,7 @@
 //! Instructions against vectors from outside, and each gate word in each view.
 
 use crate::vectors::{BRANCHES, OPERANDS, RESULTS};
-use crate::{Event, Hart, step};
+use crate::{Event, Hart, step, steps};
 use hart_mem::Mem;
 use spec_base::{Layout, NoMemory, Park, Reg, STUB_START, Trap, Version, View};
 use std::alloc::Global;
@@ -229,7 +229,7 @@ fn memory_of_gates(alloc: Global) -> Result<Mem, NoMemory> {
         Vec::from_array(alloc, shadow)?,
         vec![in alloc; 0; 282]?,
         Vec::from_array(alloc, stub)?,
-    );
+    )?;
     Ok(mem)
 }
 
@@ -273,5 +273,61 @@ fn meets_each_gate_word_in_each_view(rt: HostRuntime) -> Result<(), Fail> {
     hart.set_pc(STUB_START + 4);
     assert_eq!(rt; step(&mut hart, &mut mem), Event::Leave);
     assert_eq!(rt; (hart.pc(), hart.view()), (TEXT + 4, View::Program));
+    Ok(())
+}
+
+#[test]
+fn steps_up_to_what_stops_them(rt: HostRuntime) -> Result<(), Fail> {
+    let mut mem = memory_of_gates(rt.alloc())?;
+    // The view, where to begin in its code, the most steps, how many bytes of code they pass, and what
+    // stops them.
+    let rows = [
+        (View::Plain, 44u64, 3u64, 0u64, Event::Ecall),
+        (View::Plain, 0, 1, 0, ILLEGAL),
+        (View::Program, 0, 2, 0, Event::Gate),
+        (View::Program, 48, 2, 0, Event::Trap(Trap::FetchOut)),
+        (View::Stub, 8, 0, 0, Event::Done),
+        (View::Stub, 8, 1, 4, Event::Done),
+        (View::Stub, 8, 2, 4, Event::Key(x(5))),
+        (View::Stub, 4, 2, 0, Event::Leave),
+        (View::Shadow, 28, 2, 0, Event::Call(true)),
+        (View::Shadow, 36, 2, 0, Event::Park(Park::Store)),
+    ];
+    for (view, offset, most, passed, told) in rows {
+        let mut hart = Hart::new(start_of(view).wrapping_add(offset), view);
+        let at = hart.pc().wrapping_add(passed);
+        assert_eq!(rt;
+            steps(&mut hart, &mut mem, most),
+            (passed / 4, told),
+            "{view:?} {offset}"
+        );
+        let want = match told {
+            Event::Done => (at, view, 0),
+            _ => place_after(told, at, view),
+        };
+        assert_eq!(rt; (hart.pc(), hart.view(), hart.site()), want);
+    }
+    Ok(())
+}
+
+#[test]
+fn loops_at_the_last_word(rt: HostRuntime) -> Result<(), Fail> {
+    // A text of one word, which jumps to itself.
+    let mut mem = memory_of(rt.alloc(), vec![in rt.alloc(); 0x0000_006F; 1]?)?;
+    for most in [0, 1, 2, 1000] {
+        for view in [View::Plain, View::Program] {
+            let mut hart = Hart::new(TEXT, view);
+            assert_eq!(rt; steps(&mut hart, &mut mem, most), (most, Event::Done));
+            assert_eq!(rt; (hart.pc(), hart.view()), (TEXT, view));
+        }
+    }
+    // One that goes on past the end.
+    let mut mem = memory_of(rt.alloc(), vec![in rt.alloc(); 0x0012_8293; 1]?)?;
+    let mut hart = Hart::new(TEXT, View::Plain);
+    assert_eq!(rt;
+        steps(&mut hart, &mut mem, 9),
+        (1, Event::Trap(Trap::FetchOut))
+    );
+    assert_eq!(rt; (hart.pc(), hart.reg(x(5))), (TEXT + 4, 1));
     Ok(())
 }
