@@ -4,9 +4,10 @@ ghost use Rattle.std.specs.Prelude.{◌≡◌, ◌<◌};
 ghost use Rattle.spec_base.specs.Word.{word_of_int};
 ghost use Rattle.rv_model.specs.Registers.{reg};
 ghost use Rattle.hart_step.specs.Core.{core_of};
+ghost use Rattle.file_calls.specs.Plans.{changed, KeepsBreak};
 ghost use Rattle.plain_runner.specs.Outcomes.{answered_core};
 
-use file_calls::Files;
+use file_calls::{Change, Files};
 use hart_step::Hart;
 use spec_base::Reg;
 
@@ -33,11 +34,12 @@ fn word_of(value: &i64) -> u64
     value.cast_unsigned()
 }
 
-/// Sets the descriptors, and answers a call.
-pub fn settle(hart: &mut Hart, files: &mut Files, after: &Files, value: &i64)
-    ensures files { files.new ≡ after.now }
+/// Makes the change of a call, and answers it.
+pub fn settle(hart: &mut Hart, files: &mut Files, change: &Change, value: &i64)
+    requires { KeepsBreak files.old change.now }
+    ensures files { files.new ≡ changed files.old change.now }
     ensures hart { core_of hart.new ≡ answered_core (core_of hart.old) (word_of_int value.now) }
 {
-    *files = *after;
+    files.make(*change);
     answer(hart, word_of(value));
 }

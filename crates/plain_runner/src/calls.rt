@@ -7,7 +7,7 @@ ghost use Rattle.program_model.specs.Calls.{call_plan};
 ghost use Rattle.hart_mem.specs.Held.{space_of, spare_of, data_byte};
 ghost use Rattle.hart_step.specs.Core.{core_of};
 ghost use Rattle.rv_model.specs.Data.{data_in, memory_in};
-ghost use Rattle.file_calls.specs.Plans.{plan_shown, PlanBounds, IsOnData};
+ghost use Rattle.file_calls.specs.Plans.{plan_shown, made, PlanBounds, PlanKeepsBreak, IsOnData};
 ghost use Rattle.plain_runner.specs.Runs.{Shows};
 ghost use Rattle.plain_runner.specs.Turns.{IsAtCall, TurnsTo};
 
@@ -16,20 +16,21 @@ use crate::ending::Ending;
 use crate::opening::open;
 use crate::reading::read;
 use crate::writing::offer;
-use file_calls::{CallPlan, Files};
+use file_calls::{Files, PlannedCall};
 use hart_mem::Mem;
 use hart_step::Hart;
 use world_io::{Sink, Store};
 
 /// What the call in the registers does before the store and the sinks are asked.
-fn plan(hart: &Hart, mem: &Mem, files: &Files) -> CallPlan
-    ensures plan { plan_shown (reg (core_of hart.now).registers 10) result ≡ call_plan (data_in (data_byte (space_of mem.now))) (memory_in (data_byte (space_of mem.now))) files.now
+fn plan(hart: &Hart, mem: &Mem, files: &Files) -> PlannedCall
+    ensures plan { plan_shown (reg (core_of hart.now).registers 10) (made files.now result) ≡ call_plan (data_in (data_byte (space_of mem.now))) (memory_in (data_byte (space_of mem.now))) files.now
         (reg (core_of hart.now).registers 17) (reg (core_of hart.now).registers 10) (reg (core_of hart.now).registers 11) (reg (core_of hart.now).registers 12) }
-    ensures bounds { PlanBounds files.now (reg (core_of hart.now).registers 10) result }
-    ensures data { IsOnData (data_in (data_byte (space_of mem.now))) result }
+    ensures bounds { PlanBounds files.now (reg (core_of hart.now).registers 10) (made files.now result) }
+    ensures data { IsOnData (data_in (data_byte (space_of mem.now))) (made files.now result) }
+    ensures kept { PlanKeepsBreak files.now result }
 {
     let arguments = [argument(hart, 10), argument(hart, 11), argument(hart, 12)];
-    files.plan(argument(hart, 17), arguments, mem)
+    files.planned(argument(hart, 17), arguments, mem)
 }
 
 /// Performs the call that the registers ask for, with a buffer of 17 blocks. 17 pages are spare.
@@ -51,13 +52,13 @@ pub fn perform<S: Store, O: Sink, E: Sink>(
 {
     let plan = plan(hart, mem, files);
     match &plan {
-        CallPlan::Set(after, value) => {
-            settle(hart, files, after, value);
+        PlannedCall::Set(change, value) => {
+            settle(hart, files, change, value);
             None
         }
-        CallPlan::Open(name) => open(hart, files, name, store),
-        CallPlan::Read(spot, address) => read(hart, mem, files, buffer, spot, *address, store),
-        CallPlan::Write(to_out, address, count) => {
+        PlannedCall::Open(name) => open(hart, files, name, store),
+        PlannedCall::Read(spot, address) => read(hart, mem, files, buffer, spot, *address, store),
+        PlannedCall::Write(to_out, address, count) => {
             offer(
                 hart,
                 mem,
@@ -68,6 +69,6 @@ pub fn perform<S: Store, O: Sink, E: Sink>(
                 err,
             )
         }
-        CallPlan::Exit(code) => Some(Ending::Exited(*code)),
+        PlannedCall::Exit(code) => Some(Ending::Exited(*code)),
     }
 }

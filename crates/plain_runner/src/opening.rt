@@ -6,7 +6,7 @@ ghost use Rattle.plain_runner.specs.Outcomes.{OpenComesTo};
 
 use crate::answering::settle;
 use crate::ending::Ending;
-use file_calls::Files;
+use file_calls::{Change, Files};
 use hart_step::Hart;
 use spec_base::Name;
 use world_io::{Look, Store};
@@ -25,13 +25,12 @@ pub fn open<S: Store>(
 {
     match store.look(name) {
         Look::Found(size) => {
-            let after = files.opened(*name, size);
+            let after = files.found(*name, size);
             settle(hart, files, &after.0, &after.1);
             None
         }
         Look::Absent => {
-            let after = *files;
-            settle(hart, files, &after, &NO_SUCH_FILE);
+            settle(hart, files, &Change::Nothing, &NO_SUCH_FILE);
             None
         }
         Look::Failed => Some(Ending::StoreFault),

@@ -83,7 +83,7 @@ pub fn read<S: Store>(
         return Some(Ending::StoreFault);
     };
     mem.fill(address, bytes_of(spot, &buffer[..had])).unwrap();
-    *files = files.after_read(argument(hart, 10), spot.count);
+    files.read_on(argument(hart, 10), spot.count);
     answer(hart, spot.count);
     None
 }

@@ -20,8 +20,8 @@ absent (Some bytes) h = absurd h
 pub returns-in-Found : goal.returns-in-Found
 returns-in-Found g c = (
   Some c.in-Found.size,
-  c.settle.ensures.files ∙ ap (λ (r : Descriptors × ℤ). r.0) c.opened-after.ensures,
-  c.settle.ensures.hart ∙ ap (λ (r : Descriptors × ℤ). answered_core (core_of c.args.hart.now) (word_of_int r.1)) c.opened-after.ensures,
+  c.settle.ensures.files ∙ ap (λ (r : Descriptors × ℤ). r.0) (sym c.found-after.ensures.plan),
+  c.settle.ensures.hart ∙ ap (λ (r : Descriptors × ℤ). answered_core (core_of c.args.hart.now) (word_of_int r.1)) (sym c.found-after.ensures.plan),
   look-StoreLog _ _ (Found c.in-Found.size) c.in-Found.ensures.keeps c.in-Found.ensures.failed c.in-Found.ensures.number,
   (λ files e. found (files c.args.name.now) c.in-Found.size (subst (λ o. IfSome o (λ fs. LookSays (fs c.args.name.now) (Found c.in-Found.size))) e c.in-Found.ensures.told)),
 )

@@ -1,5 +1,5 @@
 use Rattle.std.proofs.Common.{◌≡◌, suc, ◌+◌, ◌-◌, ◌≤◌, ◌<◌, ap, sym, inl, inr, subst, arith}
-use Rattle.hart_mem.specs.Held.{space_of}
+use Rattle.hart_mem.specs.Held.{lacks_frame, space_of}
 use Rattle.hart_step.specs.Core.{core_of}
 use Rattle.plain_runner.specs.declared.ending.Ending.TheVariants.{NoMemory}
 use Rattle.plain_runner.specs.Runs.{Outside}
@@ -32,7 +32,7 @@ returns-then-left-eq0 g c p start =
     let old : Outside = record { store = g.S.Store.state c.args.store.now; out = g.O.Sink.state c.args.out.now; err = g.E.Sink.state c.args.err.now } in
     let now : Outside = record { store = g.S.Store.state c.loop.store; out = g.O.Sink.state c.loop.out; err = g.E.Sink.state c.loop.err } in
     let log : RunLog p old ((c.args.turns - c.loop.left) + c.steps-done.result.0) (core_of c.steps-done.new.hart) (space_of c.steps-done.new.mem) c.loop.files now =
-    stretch-RunLog p old c.loop.files now (core_of c.loop.hart) (space_of c.loop.mem) (c.args.turns - c.loop.left) c.loop.left c.steps-done.result.0 c.steps-done.result.1 (core_of c.steps-done.new.hart) (space_of c.steps-done.new.mem) c.steps-done.ensures.steps log0 in
+    stretch-RunLog p old c.loop.files now (core_of c.loop.hart) (space_of c.loop.mem) (c.args.turns - c.loop.left) c.loop.left c.steps-done.result.0 c.steps-done.result.1 (lacks_frame (core_of c.loop.hart).view c.steps-done.new.mem) (core_of c.steps-done.new.hart) (space_of c.steps-done.new.mem) c.steps-done.ensures.steps log0 in
     let over : (c.args.turns - c.loop.left) + c.steps-done.result.0 ≡ c.args.turns = omega (arith, c.if-left-eq0.true, c.steps-done.ensures.most, c.loop.invariant.few) in
     over-RunsTo p old ((c.args.turns - c.loop.left) + c.steps-done.result.0) (core_of c.steps-done.new.hart) (space_of c.steps-done.new.mem) c.loop.files now log c.args.turns over
 
@@ -42,7 +42,7 @@ returns-in-Some g c p start =
     let old : Outside = record { store = g.S.Store.state c.args.store.now; out = g.O.Sink.state c.args.out.now; err = g.E.Sink.state c.args.err.now } in
     let now : Outside = record { store = g.S.Store.state c.loop.store; out = g.O.Sink.state c.loop.out; err = g.E.Sink.state c.loop.err } in
     let log : RunLog p old ((c.args.turns - c.loop.left) + c.steps-done.result.0) (core_of c.steps-done.new.hart) (space_of c.steps-done.new.mem) c.loop.files now =
-    stretch-RunLog p old c.loop.files now (core_of c.loop.hart) (space_of c.loop.mem) (c.args.turns - c.loop.left) c.loop.left c.steps-done.result.0 c.steps-done.result.1 (core_of c.steps-done.new.hart) (space_of c.steps-done.new.mem) c.steps-done.ensures.steps log0 in
+    stretch-RunLog p old c.loop.files now (core_of c.loop.hart) (space_of c.loop.mem) (c.args.turns - c.loop.left) c.loop.left c.steps-done.result.0 c.steps-done.result.1 (lacks_frame (core_of c.loop.hart).view c.steps-done.new.mem) (core_of c.steps-done.new.hart) (space_of c.steps-done.new.mem) c.steps-done.ensures.steps log0 in
     let new : Outside = record { store = g.S.Store.state c.turn.new.store; out = g.O.Sink.state c.turn.new.out; err = g.E.Sink.state c.turn.new.err } in
     let stop : Stops p log.state c.in-Some.ending now (core_of c.turn.new.hart) (space_of c.turn.new.mem) c.turn.new.files new =
     subst (λ r. TurnsTo p log.state now r (core_of c.turn.new.hart) (space_of c.turn.new.mem) c.turn.new.files new) c.in-Some.is (c.turn.ensures p log.state log.shows) in
@@ -60,7 +60,7 @@ loop-preserved g c = record {
       let old : Outside = record { store = g.S.Store.state c.args.store.now; out = g.O.Sink.state c.args.out.now; err = g.E.Sink.state c.args.err.now } in
       let now : Outside = record { store = g.S.Store.state c.loop.store; out = g.O.Sink.state c.loop.out; err = g.E.Sink.state c.loop.err } in
       let log : RunLog p old ((c.args.turns - c.loop.left) + c.steps-done.result.0) (core_of c.steps-done.new.hart) (space_of c.steps-done.new.mem) c.loop.files now =
-      stretch-RunLog p old c.loop.files now (core_of c.loop.hart) (space_of c.loop.mem) (c.args.turns - c.loop.left) c.loop.left c.steps-done.result.0 c.steps-done.result.1 (core_of c.steps-done.new.hart) (space_of c.steps-done.new.mem) c.steps-done.ensures.steps log0 in
+      stretch-RunLog p old c.loop.files now (core_of c.loop.hart) (space_of c.loop.mem) (c.args.turns - c.loop.left) c.loop.left c.steps-done.result.0 c.steps-done.result.1 (lacks_frame (core_of c.loop.hart).view c.steps-done.new.mem) (core_of c.steps-done.new.hart) (space_of c.steps-done.new.mem) c.steps-done.ensures.steps log0 in
       let new : Outside = record { store = g.S.Store.state c.turn.new.store; out = g.O.Sink.state c.turn.new.out; err = g.E.Sink.state c.turn.new.err } in
       let goes : GoesOn p log.state now (core_of c.turn.new.hart) (space_of c.turn.new.mem) c.turn.new.files new =
       subst (λ r. TurnsTo p log.state now r (core_of c.turn.new.hart) (space_of c.turn.new.mem) c.turn.new.files new) c.in_default-turn.is (c.turn.ensures p log.state log.shows) in
