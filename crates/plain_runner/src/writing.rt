@@ -1,9 +1,9 @@
 //! Writing to a sink.
 
-ghost use Rattle.std.specs.Prelude.{◌≡◌, ◌≤◌, ◌<◌, ◌+◌, ◌^◌, length};
-ghost use Rattle.rv_model.specs.Memory.{bytes_at};
+ghost use Rattle.std.specs.Prelude.{◌<◌, IsTrue, length};
+ghost use Rattle.rv_model.specs.Memory.{all_from, bytes_at};
 ghost use Rattle.hart_step.specs.Core.{core_of};
-ghost use Rattle.rv_model.specs.Data.{memory_in};
+ghost use Rattle.rv_model.specs.Data.{data_in, memory_in};
 ghost use Rattle.plain_runner.specs.Outcomes.{PutComesTo, OfferComesTo};
 
 use crate::answering::answer;
@@ -11,16 +11,6 @@ use crate::ending::Ending;
 use hart_step::Hart;
 use rv_model::Bytes;
 use world_io::{Put, Sink};
-
-/// Fills a buffer with the bytes from an address on.
-fn copy<B: Bytes>(mem: &B, address: u64, into: &mut [u8])
-    requires { address + length into.old ≤ 2 ^ 64 }
-    ensures { into.new ≡ bytes_at (memory_in (B.byte_at mem.now)) address (length into.old) }
-{
-    for i in 0..into.len() {
-        into[i] = mem.byte(address + i as u64).unwrap_or(0);
-    }
-}
 
 /// Offers bytes of memory to a sink, in one put, and answers how many it took. They are those from an
 /// address on, as many as the buffer has room for, through which they go.
@@ -32,10 +22,10 @@ fn put<B: Bytes, K: Sink>(
     sink: &mut K,
 ) -> Option<Ending>
     requires some { 0 < length buffer.old }
-    requires room { address + length buffer.old ≤ 2 ^ 64 }
+    requires data { IsTrue (all_from (data_in (B.byte_at mem.now)) address (length buffer.old)) }
     ensures { PutComesTo (bytes_at (memory_in (B.byte_at mem.now)) address (length buffer.old)) (K.state sink.old) (core_of hart.old) result (core_of hart.new) (K.state sink.new) }
 {
-    copy(mem, address, buffer);
+    mem.copy_to(address, buffer);
     match sink.put(buffer) {
         Put::Took(taken) => {
             answer(hart, taken as u64);
@@ -57,7 +47,7 @@ pub fn offer<B: Bytes, O: Sink, E: Sink>(
     err: &mut E,
 ) -> Option<Ending>
     requires some { 0 < length buffer.old }
-    requires room { address + length buffer.old ≤ 2 ^ 64 }
+    requires data { IsTrue (all_from (data_in (B.byte_at mem.now)) address (length buffer.old)) }
     ensures { OfferComesTo to_out (bytes_at (memory_in (B.byte_at mem.now)) address (length buffer.old)) (O.state out.old) (E.state err.old) (core_of hart.old)
         result (core_of hart.new) (O.state out.new) (E.state err.new) }
 {

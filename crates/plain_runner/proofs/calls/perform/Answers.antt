@@ -1,7 +1,7 @@
-use Rattle.std.proofs.Common.{◌≡◌, length, take, ap, sym, ◌∙◌, subst, arith}
+use Rattle.std.proofs.Common.{◌≡◌, IsTrue, length, take, ap, sym, ◌∙◌, subst, arith}
 use Rattle.std.proofs.lemmas.List.{length-take-le}
 use Rattle.spec_base.specs.Word.{word_of_int}
-use Rattle.rv_model.specs.Memory.{bytes_at}
+use Rattle.rv_model.specs.Memory.{all_from, bytes_at}
 use Rattle.rv_model.specs.Registers.{reg}
 use Rattle.hart_mem.specs.Held.{space_of, data_byte}
 use Rattle.hart_step.specs.Core.{core_of}
@@ -11,17 +11,15 @@ use Rattle.file_calls.specs.declared.plan.PlannedCall.{PlannedCall}
 use Rattle.plain_runner.specs.Runs.{Outside}
 use Rattle.plain_runner.specs.Turns.{GoesOn}
 use Rattle.plain_runner.specs.Outcomes.{OfferComesTo, answered_core}
-use Rattle.hart_mem.proofs.DataBytes.{write_room}
 use Rattle.plain_runner.proofs.CallLemmas.{planned, set-GoesOn, exit-Stops, open-TurnsTo, read-TurnsTo, offer-TurnsTo}
 use Rattle.plain_runner.proofs.calls.perform.Goals as goal
 
-pub offer-requires-clause-room : goal.offer-requires-clause-room
-offer-requires-clause-room g c =
+pub offer-requires-clause-data : goal.offer-requires-clause-data
+offer-requires-clause-data g c =
     let on = subst (λ pl. IsOnData (data_in (data_byte (space_of c.args.mem.now))) (made c.args.files.now pl)) c.in-Write.is c.plan-plan.ensures.data in
     let bounds = subst (λ pl. PlanBounds c.args.files.now (reg (core_of c.args.hart.now).registers 10) (made c.args.files.now pl)) c.in-Write.is c.plan-plan.ensures.bounds in
-    let room = write_room c.args.mem.now c.in-Write.address c.in-Write.count on bounds.0 in
     let count : length (take c.in-Write.count c.args.buffer.now) ≡ c.in-Write.count = length-take-le c.in-Write.count c.args.buffer.now (omega (arith, bounds.1, c.requires.room)) in
-    omega (arith, room, count)
+    subst (λ n. IsTrue (all_from (data_in (data_byte (space_of c.args.mem.now))) c.in-Write.address n)) (sym count) on
 
 pub returns-in-Set : goal.returns-in-Set
 returns-in-Set g c p s shows at =
