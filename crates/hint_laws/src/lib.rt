@@ -4,7 +4,7 @@
 //! a word leads from one place to the next in `proofs/Within` and `proofs/WithinSteps`.
 #![tactic(auto)]
 
-ghost use Rattle.run_model.specs.HintLaws.{HintsAreReads, ShadowFollows, HintsUntilUse};
+ghost use Rattle.run_laws.specs.HintLaws.{HintsAreReads, ShadowFollows, HintsUntilUse};
 
 /// In every run of an accepted rewritten program, whatever moves and answers there are, as long as the
 /// own hart hasn't been past the shadow since the restart and each put was taken whole: up to the

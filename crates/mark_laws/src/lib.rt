@@ -35,7 +35,7 @@ pub fn sizes_are_true()
     ensures runs { SizesAreTrue }
 {}
 
-ghost use Rattle.run_model.specs.HintLaws.{UseIsAfterHorizon};
+ghost use Rattle.run_laws.specs.HintLaws.{UseIsAfterHorizon};
 
 /// The first use of a marked register or byte is never before the horizon, in any run: where none of
 /// the first instructions since the restart touches an unfilled byte, none of them is a use.

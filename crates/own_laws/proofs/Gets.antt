@@ -20,7 +20,7 @@ use Rattle.code_model.specs.Patch.{patched_instr}
 use Rattle.run_model.specs.Run.{World, Run, Answer, Usual, Took, Failed, Lost}
 use Rattle.run_model.specs.OwnMoves.{entered, program_after, program_at, program_step, own_call_step, read_on, look_done, write_step, write_done, own_step, own_unless}
 use Rattle.run_model.specs.Moves.{step, step_unless, begun, fetch_step, fetch_of, fetch_ends, fetch_failed, landed_with, cached_too}
-use Rattle.run_model.specs.OwnLaws.{Accepted}
+use Rattle.run_laws.specs.OwnLaws.{Accepted}
 use Rattle.code_model.proofs.Alike.{gated, effect-patched, fetched-map}
 use Rattle.own_laws.proofs.Demand.{rank, rank-stub, rank-program, call_rank, call_rank-most, Demand, calm, GatherOf, gather-of, few_blocks, Small, plan-small}
 use Rattle.own_laws.proofs.InvisibleShadow.{shadow_move-keeps}

@@ -7,7 +7,7 @@ use Rattle.spec_base.specs.declared.note.ShadowState.TheVariants.{Stopped}
 use Rattle.rv_model.specs.Memory.{Memory, stored}
 use Rattle.program_model.specs.PlainRun.{State}
 use Rattle.code_model.specs.Log.{log_head}
-use Rattle.own_laws.specs.StubLaws.{IsEmpty}
+use Rattle.run_laws.specs.StubLaws.{IsEmpty}
 use Rattle.own_laws.proofs.LogChanges.{BoxedTo}
 
 -- ---- what is held before each word

@@ -19,8 +19,8 @@ use Rattle.program_model.specs.PlainRun.{State}
 use Rattle.run_model.specs.Run.{World, Run, RunEnd, Answer, Usual, Took, Failed, Lost, opened_run, rewritten_text}
 use Rattle.run_model.specs.OwnMoves.{program_after, program_at, own_call_step, read_on, look_done, write_step, write_done, taken_in, own_step}
 use Rattle.run_model.specs.Moves.{Moves, step, step_unless, begun, silent, run, run_from, fetch_of, fetch_ends, fetch_failed, landed_with}
-use Rattle.run_model.specs.OwnLaws.{Accepted, IsShadowMove}
-use Rattle.own_laws.specs.StubLaws.{IsEmpty, IsBoxed, LeavesLink, left, takes_head, is_stopped, StubStopsFirst, RestartsFromBox, RestartHasBox}
+use Rattle.run_laws.specs.OwnLaws.{Accepted, IsShadowMove}
+use Rattle.run_laws.specs.StubLaws.{IsEmpty, IsBoxed, LeavesLink, left, takes_head, is_stopped, StubStopsFirst, RestartsFromBox, RestartHasBox}
 use Rattle.own_laws.proofs.Held.{Level, free, halted, headless, emptied, boxing, level, Held, LinkChange, same, head, stopped_first}
 use Rattle.own_laws.proofs.InvisibleShadow.{shadow_move-keeps}
 use Rattle.own_laws.proofs.OneCall.{program_stub}

@@ -19,7 +19,7 @@ use Rattle.program_model.specs.Cache.{Cache, hinted, all_hinted, hint_if, is_idl
 use Rattle.run_model.specs.Run.{World, Run, RunEnd, Answer, Usual, Took, Failed, Lost, rewritten_words}
 use Rattle.run_model.specs.ShadowMoves.{shadow_in, shadow_at_word, shadow_after, shadow_gate, shadow_stores, assumed, look_assumed, assumed_with, hint_given, fill_if, is_filled, parked, arrived_if, word_counted, fetch_shadow, is_running, is_arrival, shadow_plan, is_call_word}
 use Rattle.run_model.specs.Moves.{step, step_unless, moved, begun, shadow_while}
-use Rattle.run_model.specs.OwnLaws.{IsShadowMove, has_failed, ShadowIsInvisible, is_look, asks_for_look}
+use Rattle.run_laws.specs.OwnLaws.{IsShadowMove, has_failed, ShadowIsInvisible, is_look, asks_for_look}
 use Rattle.std.specs.Prelude.{⊤}
 use Rattle.rv_decode.specs.declared.instr.LoadOp.{LoadOp}
 use Rattle.rv_model.specs.Memory.{Memory}

@@ -23,7 +23,7 @@ use Rattle.code_model.specs.Patch.{patched_instr}
 use Rattle.run_model.specs.Run.{World, Run, RunEnd, Exits, Traps, StoreFailed, SinkFailed, Answer, Usual, Took, Failed, Lost}
 use Rattle.run_model.specs.OwnMoves.{program_after, program_at, program_step, own_call_step, read_on, look_done, write_step, write_done, taken_in, own_step}
 use Rattle.run_model.specs.Moves.{Moves, step, step_unless, begun, run_from, fetch_of, fetch_ends, fetch_failed, landed_with}
-use Rattle.run_model.specs.OwnLaws.{SameEnd, Accepted}
+use Rattle.run_laws.specs.OwnLaws.{SameEnd, Accepted}
 use Rattle.code_model.proofs.Alike.{gated, effect-patched, effect-no_gate, fetched-map, NoGate}
 use Rattle.own_laws.proofs.InvisibleShadow.{shadow_move-keeps}
 use Rattle.own_laws.proofs.Reached.{Reached, Agrees, Fixes-last, length-bytes_at, reached-more, reached-with, reached-fits, completed_tally, end_of-step, whole_put, none_some}

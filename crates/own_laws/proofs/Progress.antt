@@ -5,7 +5,7 @@ use Rattle.spec_base.specs.declared.note.Move.{Move}
 use Rattle.spec_base.specs.declared.note.Move.TheVariants.{O, S, T, D}
 use Rattle.run_model.specs.Run.{World, Run, RunEnd, Answer, opened_run}
 use Rattle.run_model.specs.Moves.{Moves, step, step_unless, silent, run, run_from}
-use Rattle.run_model.specs.OwnLaws.{Accepted, HasOwn, HasFetch, Stretches, Progress}
+use Rattle.run_laws.specs.OwnLaws.{Accepted, HasOwn, HasFetch, Stretches, Progress}
 use Rattle.own_laws.proofs.Demand.{rank, rank-stub, rank-program, rank-most, Demand}
 use Rattle.own_laws.proofs.Gets.{done, ends, lower, Moved, gets, idle, move-moved}
 use Rattle.own_laws.proofs.OwnLaws.{own_side}

@@ -2,7 +2,7 @@
 //! outside. They stand in `run_model`'s specs, and their proofs here.
 #![tactic(auto)]
 
-ghost use Rattle.run_model.specs.OwnLaws.{Preserved, ShadowIsInvisible, Progress, OwnFollows};
+ghost use Rattle.run_laws.specs.OwnLaws.{Preserved, ShadowIsInvisible, Progress, OwnFollows};
 
 /// The rewritten program does what the plain program does in as many instructions: its calls with
 /// their answers, the bytes that it put and how many of each put were taken, and its end. A move of
@@ -17,7 +17,7 @@ pub fn preserved()
     ensures own_follows { OwnFollows }
 {}
 
-ghost use Rattle.own_laws.specs.StubLaws.{StubIsOneCall, StubKeepsLog, StubTakesOldest, StubStopsFirst, RestartHasBox};
+ghost use Rattle.run_laws.specs.StubLaws.{StubIsOneCall, StubKeepsLog, StubTakesOldest, StubStopsFirst, RestartHasBox};
 
 /// Behind the stub's call the own hart has done the call that it met at its gate, and nothing else:
 /// all registers but x10 are those at the gate. A call without key leaves the hint log; a keyed one

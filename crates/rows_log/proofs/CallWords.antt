@@ -14,7 +14,7 @@ use Rattle.code_model.specs.Blocks.{block}
 use Rattle.code_model.specs.Log.{log_head, log_tail, log_place, logged}
 use Rattle.code_model.specs.Places.{block_at}
 use Rattle.side_model.specs.Hart.{Regs, get, Priv}
-use Rattle.side_model.specs.Tables.{Tabs, TableOk}
+use Rattle.code_model.specs.Tables.{Tabs, TableOk}
 use Rattle.side_model.specs.Places.{Appending, LogFullUp, Place, InBlock, InHelper, code}
 use Rattle.side_model.specs.Words.{Out, exec_some}
 use Rattle.side_model.specs.Rows.{Led, on, leaps, arrives, takes_link, puts_link, keys, calls, parks}

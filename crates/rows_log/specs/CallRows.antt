@@ -8,15 +8,15 @@ use Rattle.spec_base.specs.declared.park.Park.TheVariants as park
 use Rattle.rv_decode.specs.declared.instr.Instr.TheVariants.{Ecall}
 use Rattle.rv_model.specs.Memory.{Memory}
 use Rattle.code_model.specs.Blocks.{block}
-use Rattle.code_model.specs.Log.{log_head, log_tail, logged}
+use Rattle.code_model.specs.Log.{log_head, log_tail, logged, IsQueue}
 use Rattle.code_model.specs.Places.{block_at, APPEND}
 use Rattle.side_model.specs.Hart.{Regs, get, put, Priv}
-use Rattle.side_model.specs.Tables.{Tabs, TableOk}
+use Rattle.code_model.specs.Tables.{Tabs, TableOk}
 use Rattle.side_model.specs.Places.{Appending, LogFullUp, Place, InBlock, InHelper, code}
 use Rattle.side_model.specs.Words.{exec_some}
 use Rattle.side_model.specs.Rows.{Led}
 use Rattle.side_model.specs.JumpRows.{high_part, with_31, with_30_31}
-use Rattle.rows_log.specs.Queue.{IsQueue, HasRoom, LogStep, Takes}
+use Rattle.rows_log.specs.Queue.{HasRoom, LogStep, Takes}
 
 -- what is so of the address of an instruction of the program
 pub record IsSite (l : Layout) (p : ℕ) : Type 0 where

@@ -1,3 +1,3 @@
-//! The meaning of a run of a rewritten program, move by move, and the statements of its laws. All of
+//! The meaning of a run of a rewritten program, move by move. All of
 //! it stands in specs/.
 #![tactic(auto)]

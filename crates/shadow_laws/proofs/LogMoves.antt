@@ -7,16 +7,16 @@ use Rattle.spec_base.specs.declared.note.ShadowState.TheVariants.{Never, Running
 use Rattle.rv_decode.specs.declared.instr.LoadOp.TheVariants.{Ld}
 use Rattle.rv_model.specs.Memory.{Memory, stored}
 use Rattle.rv_model.proofs.Results.{load-small}
-use Rattle.code_model.specs.Log.{log_head, log_tail}
+use Rattle.code_model.specs.Log.{log_head, log_tail, IsQueue}
 use Rattle.run_model.specs.Run.{World, Run, Answer}
 use Rattle.run_model.specs.ShadowMoves.{shadow_step}
-use Rattle.run_model.specs.OwnLaws.{Accepted}
-use Rattle.own_laws.specs.StubLaws.{Appends, IsEmpty, RestartsFromBox, TakesOldest, leaves, takes_pair, is_halted}
+use Rattle.run_laws.specs.OwnLaws.{Accepted}
+use Rattle.run_laws.specs.StubLaws.{Appends, IsEmpty, RestartsFromBox, TakesOldest, leaves, takes_pair, is_halted}
 use Rattle.own_laws.proofs.Bounds.{Words}
 use Rattle.own_laws.proofs.LogChanges.{Appends-same}
 use Rattle.side_model.specs.Sees.{Shade, shade_of}
 use Rattle.rows_log.specs.CallRows.{IsSite}
-use Rattle.rows_log.specs.Queue.{IsQueue, Takes}
+use Rattle.rows_log.specs.Queue.{Takes}
 use Rattle.rows_log.proofs.QueueLaws.{head-takes, taking-keeps}
 use Rattle.shadow_laws.proofs.LoggedSteps.{logged_calls, Appending, logged-appends, logged-steps, logged-stays}
 use Rattle.shadow_laws.proofs.OwnShades.{Watched, watched_of, OwnShade, same, links, halts, begins}

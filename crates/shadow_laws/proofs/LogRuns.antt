@@ -18,9 +18,9 @@ use Rattle.code_model.specs.Log.{log_head, log_tail}
 use Rattle.run_model.specs.Run.{World, Run, RunEnd, Answer, Usual, Took, Failed, Lost, opened_run, rewritten_text}
 use Rattle.run_model.specs.OwnMoves.{own_step, own_unless, own_in, own_call_step, read_on, look_done, write_step}
 use Rattle.run_model.specs.Moves.{Moves, step, step_unless, begun, silent, run, run_from, fetch_of, fetch_ends, fetch_failed, landed_with, shadow_while}
-use Rattle.run_model.specs.OwnLaws.{Accepted, IsShadowMove}
+use Rattle.run_laws.specs.OwnLaws.{Accepted, IsShadowMove}
 use Rattle.run_model.specs.ShadowMoves.{shadow_step}
-use Rattle.own_laws.specs.StubLaws.{Appends, IsLog, IsLeaving, Passing, TakesOldest, RestartsFromBox, IsPassage, Outcome, keyless, takes, empties, without_oldest}
+use Rattle.run_laws.specs.StubLaws.{Appends, IsLog, IsLeaving, Passing, TakesOldest, RestartsFromBox, IsPassage, Outcome, keyless, takes, empties, without_oldest}
 use Rattle.own_laws.proofs.HeldRuns.{restart_has_box}
 use Rattle.own_laws.proofs.InvisibleShadow.{shadow_move-keeps}
 use Rattle.own_laws.proofs.LogChanges.{Appends-same, tail-head_stored}
@@ -35,7 +35,7 @@ use Rattle.own_laws.proofs.StubRows.{WordGoes, to_row, to_restarted, to_call, wo
 use Rattle.own_laws.proofs.Bounds.{Words}
 use Rattle.side_model.specs.Sees.{Shade, shade_of}
 use Rattle.rows_log.specs.CallRows.{IsSite}
-use Rattle.shadow_laws.specs.LogLaws.{LogIsQueue, ShadowAppends, StaysInStub, LogIsKept}
+use Rattle.run_laws.specs.LogLaws.{LogIsQueue, ShadowAppends, StaysInStub, LogIsKept}
 use Rattle.shadow_laws.proofs.LogMoves.{Logged, ShadowMoved, one-more, shadow-moves, same-logged, own-logged, tail-small}
 use Rattle.shadow_laws.proofs.OwnShades.{Watched, watched_of, OwnShade, same, links, halts, begins, own-shade, fetch-shade, program_at-shade}
 use Rattle.shadow_laws.proofs.ShadowNumbers.{Sized, stock_of, run-sized}

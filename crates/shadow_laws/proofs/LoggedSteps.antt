@@ -8,22 +8,22 @@ use Rattle.rv_model.specs.Memory.{Memory, stored}
 use Rattle.rv_model.specs.Space.{program_byte}
 use Rattle.rv_model.proofs.Loads.{loaded-stored}
 use Rattle.code_model.specs.Blocks.{block}
-use Rattle.code_model.specs.Log.{log_tail, log_place}
+use Rattle.code_model.specs.Log.{log_tail, log_place, IsQueue}
 use Rattle.code_model.specs.Places.{block_at}
 use Rattle.run_model.specs.Run.{World, Run, Answer, rewritten_words}
 use Rattle.run_model.specs.ShadowMoves.{shadow_step}
-use Rattle.run_model.specs.OwnLaws.{Accepted}
+use Rattle.run_laws.specs.OwnLaws.{Accepted}
 use Rattle.own_laws.proofs.Bounds.{Words}
 use Rattle.own_laws.proofs.Reached.{false_true}
 use Rattle.side_model.specs.Hart.{Regs, get, put, Priv}
-use Rattle.side_model.specs.Tables.{Tabs}
+use Rattle.code_model.specs.Tables.{Tabs}
 use Rattle.side_model.specs.Places.{Place, InBlock, code}
 use Rattle.side_model.specs.Words.{Point, exec_some}
 use Rattle.side_model.specs.Rows.{Led}
 use Rattle.side_model.specs.Sees.{Shade, shade_of}
 use Rattle.rows_log.specs.CallRows.{IsSite, Stage, Before, AtStage, CallRow, KeyStep, keeps_key, finds_key, CallNext, word, call, CallArrives, LogIsFull}
 use Rattle.rows_log.specs.LinkWords.{stores_out}
-use Rattle.rows_log.specs.Queue.{IsQueue, LogStep, leaves, puts_key, puts_count, raises_tail, KeepsQueue, LeavesLink, Takes}
+use Rattle.rows_log.specs.Queue.{LogStep, leaves, puts_key, puts_count, raises_tail, KeepsQueue, LeavesLink, Takes}
 use Rattle.rows_log.proofs.CallWords.{call_leads, call_starts, called_arrives, stages-stay}
 use Rattle.rows_log.proofs.QueueLaws.{steps-keep, leaving-keeps, loaded-left, loaded-apart}
 use Rattle.shadow_laws.proofs.ShadowNumbers.{Sized, stock_of}

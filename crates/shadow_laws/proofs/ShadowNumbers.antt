@@ -37,7 +37,7 @@ use Rattle.run_model.specs.Run.{World, Run, RunEnd, Answer, Usual, Took, Failed,
 use Rattle.run_model.specs.OwnMoves.{program_after, program_at, stub_after, stub_at, stub_stores, gate_step, own_call_step, read_on, look_done, write_step, taken_in, own_in, own_unless}
 use Rattle.run_model.specs.ShadowMoves.{fetch_shadow, is_running, is_arrival, arrived_if, shadow_plan, assumed, assumed_with, look_assumed, hint_given, fill_if, is_filled, shadow_gate, shadow_stores, shadow_after, shadow_at_word, shadow_in}
 use Rattle.run_model.specs.Moves.{Moves, step, step_unless, moved, begun, run, run_from, fetch_of, fetch_ends, fetch_failed, landed_with, shadow_while}
-use Rattle.run_model.specs.OwnLaws.{Accepted, AllBytes}
+use Rattle.run_laws.specs.OwnLaws.{Accepted, AllBytes}
 use Rattle.own_laws.proofs.Bounds.{Words, with_reg-words, FileBytes}
 use Rattle.own_laws.proofs.Offsets.{Lawful, PlanFits, plan_by-fits, opened-lawful, after_read-lawful, start-lawful, key-small}
 use Rattle.rv_model.proofs.Results.{Bytes, load-small, imm_result-small, imm_w_result-small, reg_result-small, reg_w_result-small, wrap-small, word_of_int-small}

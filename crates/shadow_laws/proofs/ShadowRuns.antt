@@ -34,9 +34,9 @@ use Rattle.run_model.specs.Run.{World, Run, RunEnd, Answer, Usual, Took, Failed,
 use Rattle.run_model.specs.OwnMoves.{own_step}
 use Rattle.run_model.specs.ShadowMoves.{fetch_shadow, is_running, is_arrival, arrived_if, word_counted, shadow_plan, assumed, look_assumed, hint_given, fill_if, is_filled, shadow_gate, shadow_stores, shadow_after, shadow_at_word, shadow_in, shadow_step}
 use Rattle.run_model.specs.Moves.{Moves, step, step_unless, begun, run, run_from, shadow_while}
-use Rattle.run_model.specs.OwnLaws.{Accepted, RegionsBounded}
-use Rattle.run_model.specs.HintLaws.{WordsBounded}
-use Rattle.own_laws.specs.StubLaws.{LeavesLink, left, takes_head, is_stopped, RestartsFromBox, IsBoxed}
+use Rattle.run_laws.specs.OwnLaws.{Accepted, RegionsBounded}
+use Rattle.run_laws.specs.HintLaws.{WordsBounded}
+use Rattle.run_laws.specs.StubLaws.{LeavesLink, left, takes_head, is_stopped, RestartsFromBox, IsBoxed}
 use Rattle.own_laws.proofs.HeldRuns.{stub_stops_first, restart_has_box}
 use Rattle.own_laws.proofs.OneCall.{program_stub}
 use Rattle.own_laws.proofs.OwnLaws.{own_side}
@@ -45,11 +45,12 @@ use Rattle.own_laws.proofs.Reached.{none_some, false_true}
 use Rattle.own_laws.proofs.Side.{side_of, Tally}
 use Rattle.side_model.specs.Places.{InHelper, Restarting, HasBlock}
 use Rattle.side_model.specs.Sees.{shade_of}
-use Rattle.side_model.specs.Tables.{Tabs, HasTabs, TableOk}
+use Rattle.code_model.specs.Tables.{Tabs, tabs_of, TableOk}
+use Rattle.side_model.specs.Tables.{HasTabs}
 use Rattle.side_model.proofs.Numbers.{TextFits}
 use Rattle.side_model.proofs.Private.{priv_of, HasPriv-of}
 use Rattle.side_model.proofs.Registers.{regs_of, HasRegs-of}
-use Rattle.side_model.proofs.Tabling.{HasTabs-below, HasTabs-of, tabs_of}
+use Rattle.side_model.proofs.Tabling.{HasTabs-below, HasTabs-of, are-consistent}
 use Rattle.side_model.specs.Hart.{Regs}
 use Rattle.rows_log.specs.CallRows.{IsSite}
 use Rattle.rows_log.specs.RestartRows.{HasBox, RestartRow}
@@ -61,7 +62,7 @@ use Rattle.shadow_laws.proofs.Sound as landing
 use Rattle.shadow_laws.proofs.SoundSteps.{sound-steps, sound-stays, landed, settles}
 use Rattle.shadow_laws.proofs.SoundSteps.{next as step-to}
 use Rattle.shadow_laws.proofs.AnyCalls.{AnyCallRow, b1, next-row, any_call-leads}
-use Rattle.shadow_laws.specs.SoundLaws.{TablesAreConsistent}
+use Rattle.run_laws.specs.SoundLaws.{TablesAreConsistent}
 use Rattle.shadow_laws.proofs.TextBlocks.{text}
 
 -- ---- what a word counts
@@ -388,7 +389,7 @@ regions_bounded w a ms = let y : HasTables w (watched_of (run w ms)) = has-table
 
 -- the table and the list are consistent
 pub tables_consistent : TablesAreConsistent
-tables_consistent w a ms = let y : HasTables w (watched_of (run w ms)) = has-tables w (watched_of (run w ms)) (run-keeps w a ms) in record { tables = y.tables; has = y.has; ok = y.ok }
+tables_consistent w a ms = let y : HasTables w (watched_of (run w ms)) = has-tables w (watched_of (run w ms)) (run-keeps w a ms) in are-consistent y.has y.ok
 
 -- the words of the shadow are few
 pub words_bounded : WordsBounded

@@ -4,9 +4,9 @@
 //! a place to such a place again, or stops or parks the shadow.
 #![tactic(auto)]
 
-ghost use Rattle.run_model.specs.OwnLaws.{RegionsBounded};
-ghost use Rattle.run_model.specs.HintLaws.{WordsBounded};
-ghost use Rattle.shadow_laws.specs.SoundLaws.{NoWordTraps, TablesAreConsistent};
+ghost use Rattle.run_laws.specs.OwnLaws.{RegionsBounded};
+ghost use Rattle.run_laws.specs.HintLaws.{WordsBounded};
+ghost use Rattle.run_laws.specs.SoundLaws.{NoWordTraps, TablesAreConsistent};
 
 /// Whatever moves are made, and whatever the outside answers: the regions in use are at most the
 /// layout's, and a shadow that isn't parked has executed at most 512 words for each of its arrivals
@@ -20,7 +20,7 @@ pub fn shadow_is_bounded()
     ensures tables { TablesAreConsistent }
 {}
 
-ghost use Rattle.shadow_laws.specs.LogLaws.{LogIsQueue, ShadowAppends, LogIsKept};
+ghost use Rattle.run_laws.specs.LogLaws.{LogIsQueue, ShadowAppends, LogIsKept};
 
 /// In every run of fewer than 2^64 - 1 moves, in which no tail of the hint log wraps: the log is a
 /// queue of at most 64 pairs unless the shadow is stopped; a move of the shadow only appends to it;

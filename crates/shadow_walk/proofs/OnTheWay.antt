@@ -10,7 +10,7 @@ use Rattle.program_model.specs.Descriptors.{Descriptor, Free, Null, Out, Err, Fi
 use Rattle.program_model.specs.PlainRun.{State}
 use Rattle.code_model.specs.Places.{block_at}
 use Rattle.run_model.specs.Run.{World, Run, rewritten_words}
-use Rattle.run_model.specs.OwnLaws.{Accepted}
+use Rattle.run_laws.specs.OwnLaws.{Accepted}
 use Rattle.run_model.specs.Restarts.{Action, Loads, Stores, Reads, TakesName, Other, call_action, nothing}
 use Rattle.run_model.specs.Marks.{no_marks, with_mark, marks_after, marks_after_call, mark_bytes, is_use, name_is_marked}
 use Rattle.side_model.specs.Hart.{Regs}

@@ -21,11 +21,11 @@ use Rattle.code_model.specs.Places.{block_at}
 use Rattle.code_model.specs.Regions.{shadowed}
 use Rattle.run_model.specs.Run.{World, Run, Answer, rewritten_words}
 use Rattle.run_model.specs.ShadowMoves.{is_arrival, shadow_step, fetch_shadow}
-use Rattle.run_model.specs.OwnLaws.{Accepted}
+use Rattle.run_laws.specs.OwnLaws.{Accepted}
 use Rattle.run_model.specs.Restarts.{instr_at}
 use Rattle.run_model.specs.Marks.{no_marks, mark_bytes, marks_after}
 use Rattle.side_model.specs.Hart.{Regs, get}
-use Rattle.side_model.specs.Tables.{Tabs, TableOk}
+use Rattle.code_model.specs.Tables.{Tabs, TableOk}
 use Rattle.side_model.specs.Places.{address, HasBlock}
 use Rattle.side_model.specs.Words.{Point}
 use Rattle.side_model.specs.Sees.{shade_of, Sees, HasRegs}

@@ -18,10 +18,11 @@ use Rattle.code_model.specs.Places.{block_at}
 use Rattle.code_model.specs.Regions.{entry_of, slots_in_use, shadowed}
 use Rattle.run_model.specs.Run.{World, Run, Answer}
 use Rattle.run_model.specs.ShadowMoves.{fetch_shadow, shadow_step}
-use Rattle.run_model.specs.OwnLaws.{Accepted}
+use Rattle.run_laws.specs.OwnLaws.{Accepted}
 use Rattle.run_model.specs.Restarts.{instr_at}
 use Rattle.side_model.specs.Places.{HasBlock}
-use Rattle.side_model.specs.Tables.{Tabs, HasTabs, TableOk}
+use Rattle.code_model.specs.Tables.{Tabs, TableOk}
+use Rattle.side_model.specs.Tables.{HasTabs}
 use Rattle.hart_step.specs.Core.{Core}
 use Rattle.shadow_walk.specs.Shows.{ShowsIn, ShowsShadow}
 use Rattle.shadow_walk.specs.declared.walking.Walked.{Walked}

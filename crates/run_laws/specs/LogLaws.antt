@@ -6,9 +6,9 @@ use Rattle.spec_base.specs.declared.note.Move.TheVariants.{O}
 use Rattle.spec_base.specs.declared.note.ShadowState.TheVariants.{Stopped}
 use Rattle.run_model.specs.Run.{World, Run, Answer}
 use Rattle.run_model.specs.Moves.{Moves, step, run, run_from}
-use Rattle.run_model.specs.OwnLaws.{Accepted, IsShadowMove}
-use Rattle.own_laws.specs.StubLaws.{Appends, IsLeaving, IsPassage}
-use Rattle.rows_log.specs.Queue.{IsQueue}
+use Rattle.run_laws.specs.OwnLaws.{Accepted, IsShadowMove}
+use Rattle.run_laws.specs.StubLaws.{Appends, IsLeaving, IsPassage}
+use Rattle.code_model.specs.Log.{IsQueue}
 
 -- unless the shadow is stopped, the log is a queue of at most 64 pairs
 abbrev pub LogIsQueue : Type 0

@@ -11,7 +11,7 @@ use Rattle.program_model.specs.PlainRun.{State, plan_of, performed}
 use Rattle.code_model.specs.Log.{log_head, log_tail, logged, boxed_site, boxed}
 use Rattle.run_model.specs.Run.{World, Run, Answer}
 use Rattle.run_model.specs.Moves.{Moves, step, run, run_from}
-use Rattle.run_model.specs.OwnLaws.{Accepted, IsShadowMove}
+use Rattle.run_laws.specs.OwnLaws.{Accepted, IsShadowMove}
 
 -- ---- one call
 

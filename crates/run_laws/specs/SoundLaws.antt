@@ -3,20 +3,14 @@ use Rattle.std.specs.Prelude.{◌≡◌}
 use Rattle.spec_base.specs.declared.note.ShadowState.TheVariants.{Running}
 use Rattle.run_model.specs.Run.{World, Run}
 use Rattle.run_model.specs.Moves.{Moves, run}
-use Rattle.run_model.specs.OwnLaws.{Accepted}
-use Rattle.side_model.specs.Completes.{WordCompletes}
-use Rattle.side_model.specs.Tables.{Tabs, HasTabs, TableOk}
+use Rattle.run_laws.specs.OwnLaws.{Accepted}
+use Rattle.run_laws.specs.Completes.{WordCompletes}
+use Rattle.code_model.specs.Tables.{AreConsistent}
 
 -- no word of a running shadow traps: there is one at its pc, and it completes
 abbrev pub NoWordTraps : Type 0
 NoWordTraps = (w : World) → Accepted w → (ms : Moves) → let r = run w ms in r.shadow.state ≡ Running → WordCompletes w r
 
--- a run's table and list, which are consistent
-pub record HasConsistentTables (w : World) (r : Run) : Type 0 where
-  pub tables : Tabs
-  pub has : HasTabs w.image.layout r.shared tables
-  pub ok : TableOk w.image.layout tables
-
 -- whatever the shadow is doing, and between any two of its words: the count is at most the layout's regions, the list names an entry for each slot in use, and an entry that isn't 0 is the number of a slot that names it
 abbrev pub TablesAreConsistent : Type 0
-TablesAreConsistent = (w : World) → Accepted w → (ms : Moves) → HasConsistentTables w (run w ms)
+TablesAreConsistent = (w : World) → Accepted w → (ms : Moves) → AreConsistent w.image.layout (run w ms).shared

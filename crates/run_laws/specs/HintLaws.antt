@@ -14,7 +14,7 @@ use Rattle.run_model.specs.Moves.{Moves, run}
 use Rattle.run_model.specs.ShadowMoves.{is_arrival}
 use Rattle.run_model.specs.Restarts.{from_restart, nothing, unfilled, before_horizon, reads}
 use Rattle.run_model.specs.Marks.{Marks, marks, before_use}
-use Rattle.run_model.specs.OwnLaws.{Accepted}
+use Rattle.run_laws.specs.OwnLaws.{Accepted}
 
 -- ---- the moments of the promise
 

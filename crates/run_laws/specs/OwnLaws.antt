@@ -9,7 +9,7 @@ use Rattle.spec_base.specs.declared.note.Move.TheVariants.{O, S, T, D}
 use Rattle.rv_model.specs.Memory.{Memory}
 use Rattle.program_model.specs.Descriptors.{start_of}
 use Rattle.program_model.specs.Calls.{CallPlan, Set, Look, Read, Write, Exit}
-use Rattle.program_model.specs.PlainRun.{State, Image, Taken, plain_state, End, Exited, TrapsAt, GoesOn, end_of}
+use Rattle.program_model.specs.PlainRun.{State, Output, Image, Taken, plain_state, End, Exited, TrapsAt, GoesOn, end_of}
 use Rattle.code_model.specs.Regions.{slots_in_use}
 use Rattle.run_model.specs.Run.{World, Run, RunEnd, Exits, Traps, StoreFailed, SinkFailed, Answer, Usual, Took, Failed, Lost}
 use Rattle.run_model.specs.Moves.{Moves, step, run}
@@ -22,6 +22,10 @@ use Rattle.run_model.specs.Restarts.{from_restart}
 abbrev pub AllBytes : List ℕ → Type 0
 AllBytes bytes = All (λ b. b < 256) bytes
 
+-- nothing was put
+abbrev pub no_output : Output
+no_output = record { bytes = []; puts = [] }
+
 -- a program that was loaded from an accepted file, and files. What is asked of its start is true of each loaded program
 pub record Accepted (w : World) : Type 0 where
   pub lawful : IsTrue (is_lawful w.image.layout)
@@ -32,7 +36,7 @@ pub record Accepted (w : World) : Type 0 where
   pub files : (name : Name) (bytes : List ℕ) → w.files name ≡ Some bytes → (length bytes < 2 ^ 56) × AllBytes bytes
   pub descriptors : (break_start : ℕ) × (w.image.start.files ≡ start_of break_start (image_limit w.image.layout.version))
   pub fresh : w.image.start.exited ≡ None
-  pub silent : (w.image.start.out.puts ≡ []) × (w.image.start.err.puts ≡ [])
+  pub silent : (w.image.start.out ≡ no_output) × (w.image.start.err ≡ no_output)
 
 -- ---- preservation
 
