@@ -1,5 +1,5 @@
 -- A passage through the stub: one call is performed, and the hint log is left, loses its oldest pair, or is emptied before a restart (this project's own).
-use Rattle.std.specs.Prelude.{ℕ, ◌+◌, ◌*◌, ◌^◌, ◌≡◌, ◌≢◌, ◌≤◌, ◌<◌, Bool, true, false, [], ◌∷◌, None}
+use Rattle.std.specs.Prelude.{ℕ, ◌+◌, ◌*◌, ◌^◌, ◌≡◌, ◌≢◌, ◌≤◌, ◌<◌, ⊤, Bool, true, false, [], ◌∷◌, Some, None}
 use Rattle.spec_base.specs.Layout.{stub_start, link_start}
 use Rattle.spec_base.specs.declared.machine.View.TheVariants.{Program, Stub}
 use Rattle.spec_base.specs.declared.note.Move.TheVariants.{O}
@@ -9,8 +9,9 @@ use Rattle.rv_model.specs.Registers.{reg}
 use Rattle.program_model.specs.Calls.{key_of}
 use Rattle.program_model.specs.PlainRun.{State, plan_of, performed}
 use Rattle.code_model.specs.Log.{log_head, log_tail, logged, boxed_site, boxed}
-use Rattle.run_model.specs.Run.{World, Run, Answer}
+use Rattle.run_model.specs.Run.{World, Run, RunEnd, Exits, Traps, StoreFailed, SinkFailed, Answer}
 use Rattle.run_model.specs.Moves.{Moves, step, run, run_from}
+use Rattle.run_laws.specs.Completes.{StubWordCompletes}
 use Rattle.run_laws.specs.OwnLaws.{Accepted, IsShadowMove}
 
 -- ---- one call
@@ -33,6 +34,31 @@ pub record IsOneCall (w : World) (r : Run) : Type 0 where
 
 abbrev pub StubIsOneCall : Type 0
 StubIsOneCall = (w : World) → Accepted w → (ms : Moves) → IsLeaving (run w ms) → IsOneCall w (run w ms)
+
+-- ---- no word of the stub traps
+
+-- while the own hart is in the stub, its word completes
+abbrev pub StubWordsComplete : Type 0
+StubWordsComplete = (w : World) → Accepted w → (ms : Moves) → let r = run w ms in r.view ≡ Stub → r.end ≡ None → StubWordCompletes r
+
+-- the stub's word 26, HCALL 0
+abbrev pub call_word : ℕ
+call_word = stub_start + 4 * 25
+
+-- a run ends by an exit, or by a fault of the store or of a sink
+abbrev pub IsExitOrFault : RunEnd → Type 0
+IsExitOrFault (Exits code) = ⊤
+IsExitOrFault StoreFailed = ⊤
+IsExitOrFault SinkFailed = ⊤
+IsExitOrFault (Traps cause pc) = ⊥
+
+-- a run that ends in the stub ends so, at the call, and the stub isn't left
+pub record EndsAtCall (r : Run) (e : RunEnd) : Type 0 where
+  pub word : r.own.pc ≡ call_word
+  pub cause : IsExitOrFault e
+
+abbrev pub StubEndsAtCall : Type 0
+StubEndsAtCall = (w : World) → Accepted w → (ms : Moves) (e : RunEnd) → let r = run w ms in r.view ≡ Stub → r.end ≡ Some e → EndsAtCall r e
 
 -- ---- the log
 

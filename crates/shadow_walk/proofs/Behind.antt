@@ -39,7 +39,7 @@ use Rattle.shadow_walk.specs.Restarts as again
 use Rattle.shadow_walk.specs.Restarts.{StandsAnswered, StandsRestarted, StandsOn, kept_x31, LeavesOwn, Returns, ReturnsAtOnce}
 use Rattle.shadow_walk.specs.declared.walking.Walked.TheVariants as walked
 use Rattle.shadow_walk.proofs.Told.{Tells}
-use Rattle.shadow_walk.proofs.OnTheWay.{sized-of, of-sized}
+use Rattle.shadow_laws.proofs.ShadowNumbers.{sized-of, of-sized}
 use Rattle.shadow_walk.proofs.WalkRows.{within-some}
 use Rattle.shadow_walk.proofs.WalkWords.{shown-register}
 use Rattle.shadow_walk.proofs.Strides.{Stepped}

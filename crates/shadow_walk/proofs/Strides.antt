@@ -41,7 +41,8 @@ use Rattle.shadow_walk.specs.Shows.{ShowsIn, ShowsShadow, AtKey, AtCall, MovesBy
 use Rattle.shadow_walk.specs.Walks.{words_on, HasState, StandsAt, ParksBy, Walks, arrives, parks, calls}
 use Rattle.shadow_walk.specs.declared.walking.Walked.TheVariants as walked
 use Rattle.shadow_walk.proofs.Told.{Tells, tells}
-use Rattle.shadow_walk.proofs.OnTheWay.{of-sized, use-none, Walking, walking-sees, Started, starts}
+use Rattle.shadow_laws.proofs.ShadowNumbers.{of-sized}
+use Rattle.shadow_walk.proofs.OnTheWay.{use-none, Walking, walking-sees, Started, starts}
 use Rattle.shadow_walk.proofs.WalkEnds.{OnInstruction, on-instruction}
 use Rattle.shadow_walk.proofs.WalkRows as asks
 use Rattle.shadow_walk.proofs.WalkRows.{within-some, is_other, Asks, AsksIn, within-asks, within-completes}

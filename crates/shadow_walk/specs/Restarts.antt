@@ -22,7 +22,8 @@ use Rattle.side_model.specs.Tables.{HasTabs}
 use Rattle.rows_log.specs.CallRows.{IsSite}
 use Rattle.hart_step.specs.Core.{Core}
 use Rattle.shadow_walk.specs.Shows.{ShowsIn, ShowsShadow}
-use Rattle.shadow_walk.specs.Walks.{IsSized, words_on}
+use Rattle.run_laws.specs.Numbers.{IsSized}
+use Rattle.shadow_walk.specs.Walks.{words_on}
 use Rattle.shadow_walk.specs.declared.walking.Walked.{Walked}
 use Rattle.shadow_walk.specs.declared.walking.Walked.TheVariants as walked
 
