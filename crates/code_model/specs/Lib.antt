@@ -6,3 +6,4 @@ pub mod Helpers
 pub mod Stub
 pub mod Regions
 pub mod Log
+pub mod Tables

@@ -1,5 +1,5 @@
 -- The hint log and the restart box, in the link (this project's own).
-use Rattle.std.specs.Prelude.{ℕ, zero, suc, ◌+◌, ◌*◌, ◌%◌}
+use Rattle.std.specs.Prelude.{ℕ, zero, suc, ◌+◌, ◌*◌, ◌%◌, ◌≤◌}
 use Rattle.spec_base.specs.Layout.{link_start}
 use Rattle.rv_model.specs.Memory.{Memory, loaded}
 
@@ -20,6 +20,11 @@ log_place i = link_start + 256 + 16 * (i % 64)
 -- pair number i: its key and its asked count
 abbrev pub logged : Memory → ℕ → ℕ × ℕ
 logged link i = (loaded link (log_place i) 8, loaded link (log_place i + 8) 8)
+
+-- it is a queue: pairs are taken only once they are appended, and at most 64 wait
+pub record IsQueue (link : Memory) : Type 0 where
+  pub order : log_head link ≤ log_tail link
+  pub most : log_tail link ≤ log_head link + 64
 
 -- ---- the box: the site, then the registers
 

@@ -8,7 +8,7 @@ use Rattle.rv_model.specs.Memory.{Memory, zeros, patched, stored, loaded}
 use Rattle.rv_model.specs.Space.{program_byte}
 use Rattle.rv_model.proofs.Loads.{loaded-below_patch, loaded-above_patch, loaded-in_patch, loaded-stored}
 use Rattle.code_model.specs.Regions.{entry_address, entry_of, slots_in_use, listed_address, slot_address, with_copy}
-use Rattle.cow_regions.specs.Tables.{AreConsistent, all_regions}
+use Rattle.code_model.specs.Tables.{AreConsistent, all_regions}
 use Rattle.cow_regions.proofs.SharedNumbers.{regions-most}
 
 -- ---- numbers of four bytes

@@ -5,7 +5,8 @@ use Rattle.spec_base.specs.declared.layout.Layout.{Layout}
 use Rattle.rv_model.specs.Memory.{Memory}
 use Rattle.rv_model.specs.Space.{Space}
 use Rattle.code_model.specs.Regions.{entry_of, slots_in_use, with_copy, with_copies, uncopied}
-use Rattle.cow_regions.specs.Tables.{AreConsistent, KeepsSlots, all_regions}
+use Rattle.code_model.specs.Tables.{AreConsistent, all_regions}
+use Rattle.cow_regions.specs.Tables.{KeepsSlots}
 use Rattle.cow_regions.proofs.Copies.{consistent-next, count-next, entry-new, entry-other}
 
 -- ---- regions without a copy

@@ -16,7 +16,7 @@ use Rattle.hart_mem.specs.Held.{Held, load_answer, space_of}
 use Rattle.hart_mem.proofs.Grains.{IsLawful, lawful_is}
 use Rattle.rv_model.proofs.DataLemmas.{all_from-inside}
 use Rattle.code_model.specs.Regions.{slot_address}
-use Rattle.cow_regions.specs.Tables.{all_regions}
+use Rattle.code_model.specs.Tables.{all_regions}
 use Rattle.cow_regions.proofs.SharedNumbers.{all_from-each, end-most, load-ok, regions-most}
 
 -- ---- the bytes of a number

@@ -7,7 +7,7 @@ use Rattle.spec_base.specs.declared.layout.Layout.{Layout}
 use Rattle.rv_model.specs.Memory.{Memory, patched, written}
 use Rattle.rv_model.specs.Space.{Space}
 use Rattle.code_model.specs.Regions.{entry_of, slot_address, copy_place, set_in_copies}
-use Rattle.cow_regions.specs.Tables.{AreConsistent, all_regions}
+use Rattle.code_model.specs.Tables.{AreConsistent, all_regions}
 use Rattle.cow_regions.proofs.Copies.{consistent-above, entry-above}
 use Rattle.cow_regions.proofs.RangeBytes.{patched-none, patched-alike, patched-more}
 

@@ -17,7 +17,8 @@ use Rattle.hart_mem.specs.declared.access.Access.{Access}
 use Rattle.hart_mem.proofs.Numbers.{loaded_same}
 use Rattle.rv_model.proofs.DataLemmas.{all_from-inside}
 use Rattle.code_model.specs.Regions.{entry_address, listed_address, slot_address}
-use Rattle.cow_regions.specs.Tables.{IsNumber, all_regions}
+use Rattle.code_model.specs.Tables.{all_regions}
+use Rattle.cow_regions.specs.Tables.{IsNumber}
 
 -- ---- layouts
 

@@ -7,7 +7,8 @@ ghost use Rattle.rv_model.specs.Rights.{in_range};
 ghost use Rattle.rv_model.specs.Space.{program_byte};
 ghost use Rattle.code_model.specs.Regions.{entry_of, slot_address, slots_in_use, uncopied, with_copies, with_copy};
 ghost use Rattle.hart_mem.specs.Held.{space_of, spare_of};
-ghost use Rattle.cow_regions.specs.Tables.{AreConsistent, KeepsSlots, all_regions};
+ghost use Rattle.code_model.specs.Tables.{AreConsistent, all_regions};
+ghost use Rattle.cow_regions.specs.Tables.{KeepsSlots};
 
 use crate::numbers::put;
 use crate::tables::{slot_of, used};

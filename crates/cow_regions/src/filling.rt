@@ -7,7 +7,8 @@ ghost use Rattle.rv_model.specs.Memory.{all_from, patched, written};
 ghost use Rattle.rv_model.specs.Rights.{is_data};
 ghost use Rattle.code_model.specs.Regions.{copy_place, entry_of, set_in_copies, slot_address};
 ghost use Rattle.hart_mem.specs.Held.{space_of, spare_of};
-ghost use Rattle.cow_regions.specs.Tables.{AreConsistent, KeepsSlots, all_regions};
+ghost use Rattle.code_model.specs.Tables.{AreConsistent, all_regions};
+ghost use Rattle.cow_regions.specs.Tables.{KeepsSlots};
 ghost use Rattle.cow_regions.specs.Fills.{filled_space, fitted, regions_fit};
 
 use crate::copying::{count_new, make_copies};

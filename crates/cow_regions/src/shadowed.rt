@@ -3,7 +3,7 @@
 ghost use Rattle.std.specs.Prelude.{◌≡◌, ◌+◌, ◌-◌, ◌<◌, ◌≤◌};
 ghost use Rattle.code_model.specs.Regions.{slot_address};
 ghost use Rattle.hart_mem.specs.Held.{space_of};
-ghost use Rattle.cow_regions.specs.Tables.{AreConsistent};
+ghost use Rattle.code_model.specs.Tables.{AreConsistent};
 ghost use Rattle.cow_regions.specs.Views.{shadowed_byte};
 
 use crate::numbers::number;
@@ -23,7 +23,7 @@ pub struct Shadowed<'a> {
 
 impl<'a> Model for Shadowed<'a> {
     ghost use Rattle.hart_mem.specs.Held.{Held, space_of};
-    ghost use Rattle.cow_regions.specs.Tables.{AreConsistent};
+    ghost use Rattle.code_model.specs.Tables.{AreConsistent};
 
     ghost Value = { Held };
 

@@ -3,7 +3,8 @@
 ghost use Rattle.std.specs.Prelude.{◌≡◌, ◌<◌};
 ghost use Rattle.code_model.specs.Regions.{slots_in_use};
 ghost use Rattle.hart_mem.specs.Held.{space_of};
-ghost use Rattle.cow_regions.specs.Tables.{AreConsistent, all_regions, slot_in};
+ghost use Rattle.code_model.specs.Tables.{AreConsistent, all_regions};
+ghost use Rattle.cow_regions.specs.Tables.{slot_in};
 
 use crate::numbers::number;
 use hart_mem::{Mem, Width};

@@ -4,7 +4,7 @@
 ghost use Rattle.std.specs.Prelude.{◌≡◌, ◌+◌, ◌≤◌, IfOk, IsTrue, length};
 ghost use Rattle.spec_base.specs.Layout.{is_lawful};
 ghost use Rattle.hart_mem.specs.Held.{space_of};
-ghost use Rattle.cow_regions.specs.Tables.{AreConsistent};
+ghost use Rattle.code_model.specs.Tables.{AreConsistent};
 
 use crate::{Fitted, Shadowed, emit_access, emit_clear, fill_copies, slot_of, used};
 use hart_mem::{Bytes, Mem};

@@ -19,12 +19,12 @@ use Rattle.program_model.specs.PlainRun.{State, plan_of, next_state, all_taken}
 use Rattle.code_model.specs.Regions.{entry_of}
 use Rattle.run_model.specs.Run.{World, Run, Answer}
 use Rattle.run_model.specs.ShadowMoves.{shadow_step, fetch_shadow, shadow_plan}
-use Rattle.run_model.specs.OwnLaws.{Accepted}
+use Rattle.run_laws.specs.OwnLaws.{Accepted}
 use Rattle.run_model.specs.Restarts.{Action, Reads, TakesName, from_restart, instr_at, action, some_action, call_action, action_by, name_action, instr_action, read_in, reads, before_horizon}
 use Rattle.run_model.specs.Marks.{Marks, marks, marks_with, marks_after, marks_after_some, is_use, some_use, before_use_with, before_use, name_is_marked}
 use Rattle.own_laws.proofs.Reached.{false_true}
 use Rattle.side_model.specs.Hart.{Regs, get}
-use Rattle.side_model.specs.Tables.{all_regions}
+use Rattle.code_model.specs.Tables.{all_regions}
 use Rattle.side_model.specs.Sees.{shade_of}
 use Rattle.shadow_laws.proofs.Sound.{Standing}
 use Rattle.mark_laws.specs.Agreement.{Agrees, SeesAlike, planned, is_read, assumed_answer, HasAll, CallLeads}

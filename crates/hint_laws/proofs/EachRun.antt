@@ -12,8 +12,8 @@ use Rattle.run_model.specs.ShadowMoves.{is_arrival, shadow_step}
 use Rattle.run_model.specs.Moves.{Moves, begun, silent, step, step_unless, run, run_from, shadow_while}
 use Rattle.run_model.specs.Restarts.{from_restart}
 use Rattle.run_model.specs.Marks.{before_use}
-use Rattle.run_model.specs.OwnLaws.{Accepted}
-use Rattle.run_model.specs.HintLaws.{HintsAreReads, ShadowFollows, HintsUntilUse}
+use Rattle.run_laws.specs.OwnLaws.{Accepted}
+use Rattle.run_laws.specs.HintLaws.{HintsAreReads, ShadowFollows, HintsUntilUse}
 use Rattle.shadow_laws.proofs.ShadowNumbers.{Sized, stock_of, run-sized}
 use Rattle.shadow_laws.proofs.ShadowRuns.{resting-stays, run-snoc}
 use Rattle.shadow_laws.proofs.Sound.{never_running, stopped_running, parked_running}

@@ -10,7 +10,7 @@ use Rattle.run_model.specs.Run.{World, Run, Answer, rewritten_words}
 use Rattle.run_model.specs.ShadowMoves.{shadow_step}
 use Rattle.run_model.specs.Restarts.{from_restart}
 use Rattle.run_model.specs.Marks.{Marks, before_use}
-use Rattle.run_model.specs.OwnLaws.{Accepted}
+use Rattle.run_laws.specs.OwnLaws.{Accepted}
 use Rattle.side_model.specs.Hart.{Regs}
 use Rattle.side_model.specs.Sees.{shade_of}
 use Rattle.shadow_laws.proofs.ShadowNumbers.{Sized, stock_of}

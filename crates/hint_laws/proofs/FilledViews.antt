@@ -13,9 +13,10 @@ use Rattle.program_model.specs.Calls.{CallPlan, Set, Look, Read, Write, Exit, by
 use Rattle.code_model.specs.Regions.{entry_of, shadowed}
 use Rattle.run_model.specs.Run.{World, Run, rewritten_words}
 use Rattle.run_model.specs.ShadowMoves.{shadow_plan, fill, is_filled, hint_given}
-use Rattle.run_model.specs.OwnLaws.{Accepted}
+use Rattle.run_laws.specs.OwnLaws.{Accepted}
 use Rattle.own_laws.proofs.Reached.{false_true}
-use Rattle.side_model.specs.Tables.{Tabs, HasTabs, TableOk, all_regions}
+use Rattle.code_model.specs.Tables.{Tabs, TableOk, all_regions}
+use Rattle.side_model.specs.Tables.{HasTabs}
 use Rattle.rows_access.specs.Accesses.{seen}
 use Rattle.rows_log.specs.Fills.{bytes_set, IsFilled}
 use Rattle.rows_log.proofs.FilledReads.{fills-keep_tables}

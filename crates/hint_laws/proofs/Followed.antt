@@ -18,10 +18,10 @@ use Rattle.run_model.specs.Run.{World, Run, rewritten_words}
 use Rattle.run_model.specs.ShadowMoves.{is_arrival}
 use Rattle.run_model.specs.Restarts.{from_restart, instr_at, reads, before_horizon}
 use Rattle.run_model.specs.Marks.{Marks, marks, before_use}
-use Rattle.run_model.specs.HintLaws.{is_behind_call, hinted_up_to}
+use Rattle.run_laws.specs.HintLaws.{is_behind_call, hinted_up_to}
 use Rattle.side_model.specs.Hart.{Regs, get}
 use Rattle.side_model.specs.Sees.{shade_of, HasRegs}
-use Rattle.side_model.specs.Tables.{all_regions}
+use Rattle.code_model.specs.Tables.{all_regions}
 use Rattle.mark_laws.specs.Agreement.{Agrees, SeesAlike}
 use Rattle.mark_laws.specs.Settled.{settled_with}
 use Rattle.hint_laws.proofs.Within.{Doing, does, ends, restarts, goes_to, Within}

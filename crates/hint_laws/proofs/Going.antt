@@ -11,12 +11,12 @@ use Rattle.code_model.specs.Regions.{entry_of, slot_address, byte_by_entry, shad
 use Rattle.run_model.specs.Run.{World, Run, Answer, rewritten_words}
 use Rattle.run_model.specs.ShadowMoves.{is_arrival, shadow_step}
 use Rattle.run_model.specs.Marks.{Marks}
-use Rattle.run_model.specs.HintLaws.{is_behind_call}
-use Rattle.run_model.specs.OwnLaws.{Accepted}
+use Rattle.run_laws.specs.HintLaws.{is_behind_call}
+use Rattle.run_laws.specs.OwnLaws.{Accepted}
 use Rattle.own_laws.proofs.Reached.{false_true}
 use Rattle.side_model.specs.Hart.{Regs}
 use Rattle.side_model.specs.Sees.{shade_of}
-use Rattle.side_model.specs.Tables.{all_regions}
+use Rattle.code_model.specs.Tables.{all_regions}
 use Rattle.shadow_laws.proofs.AnyCalls.{LeavesTables}
 use Rattle.shadow_laws.proofs.ShadowRuns.{resting-stays}
 use Rattle.shadow_laws.proofs.Sound.{parked_running}

@@ -8,8 +8,8 @@ use Rattle.run_model.specs.Run.{World, Run}
 use Rattle.run_model.specs.ShadowMoves.{is_arrival}
 use Rattle.run_model.specs.Restarts.{reads, before_horizon}
 use Rattle.run_model.specs.Marks.{Marks, before_use}
-use Rattle.run_model.specs.HintLaws.{is_behind_call, hinted_up_to}
-use Rattle.run_model.specs.OwnLaws.{Accepted}
+use Rattle.run_laws.specs.HintLaws.{is_behind_call, hinted_up_to}
+use Rattle.run_laws.specs.OwnLaws.{Accepted}
 use Rattle.own_laws.proofs.Reached.{false_true}
 use Rattle.side_model.specs.Hart.{Regs}
 use Rattle.hint_laws.proofs.Within.{Doing}

@@ -13,7 +13,7 @@ use Rattle.run_model.specs.Run.{World, Run, ShadowHart, rewritten_words}
 use Rattle.run_model.specs.ShadowMoves.{is_arrival}
 use Rattle.run_model.specs.Restarts.{from_restart, reads, before_horizon}
 use Rattle.run_model.specs.Marks.{Marks, marks, marks_with, before_use}
-use Rattle.run_model.specs.HintLaws.{is_behind_call, hinted_up_to}
+use Rattle.run_laws.specs.HintLaws.{is_behind_call, hinted_up_to}
 use Rattle.own_laws.proofs.Reached.{none_some, false_true}
 use Rattle.side_model.specs.Hart.{Regs}
 use Rattle.side_model.specs.Sees.{shade_of}

@@ -15,11 +15,11 @@ use Rattle.program_model.specs.PlainRun.{State, state_after, all_taken}
 use Rattle.run_model.specs.Run.{World, Run, RunEnd, Since, Answer, Usual, Took, Failed, Lost, opened_run}
 use Rattle.run_model.specs.OwnMoves.{stays_behind, counted, own_step}
 use Rattle.run_model.specs.Moves.{Moves, begun, silent, step, step_unless, run, landed_with, fetch_failed, fetch_ends, fetch_of}
-use Rattle.run_model.specs.OwnLaws.{Accepted, OwnIs}
+use Rattle.run_laws.specs.OwnLaws.{Accepted, OwnIs}
 use Rattle.run_model.specs.Restarts.{from_restart}
 use Rattle.run_model.specs.Marks.{before_use}
-use Rattle.run_model.specs.HintLaws.{IsFollowing}
-use Rattle.own_laws.specs.StubLaws.{LeavesLink, left, takes_head, is_stopped}
+use Rattle.run_laws.specs.HintLaws.{IsFollowing}
+use Rattle.run_laws.specs.StubLaws.{LeavesLink, left, takes_head, is_stopped}
 use Rattle.own_laws.proofs.HeldRuns.{stub_stops_first}
 use Rattle.own_laws.proofs.OwnLaws.{own_follows}
 use Rattle.own_laws.proofs.Reached.{none_some}

@@ -20,7 +20,7 @@ use Rattle.code_model.specs.Helpers.{helpers}
 use Rattle.code_model.specs.Blocks.{block, guard_block, blocks_from, with_pad, jal_if, is_target, load_restore, link_spill, taken_word, access_words, store_helper, store_end}
 use Rattle.run_model.specs.Run.{World}
 use Rattle.run_model.specs.ShadowMoves.{fetch_shadow, fetch_by, block_word, is_arrival}
-use Rattle.run_model.specs.HintLaws.{is_behind_call}
+use Rattle.run_laws.specs.HintLaws.{is_behind_call}
 use Rattle.own_laws.proofs.Reached.{none_some, false_true}
 
 -- ---- words

@@ -25,10 +25,10 @@ use Rattle.run_model.specs.Run.{World, Run, Answer, rewritten_words}
 use Rattle.run_model.specs.ShadowMoves.{shadow_step}
 use Rattle.run_model.specs.Restarts.{Action, from_restart, instr_at, instr_action, some_action, action, read_in, reads}
 use Rattle.run_model.specs.Marks.{Marks, mark_bytes, marks_after, marks_after_some, marks_with, marks, is_use, some_use, before_use_with, before_use}
-use Rattle.run_model.specs.OwnLaws.{Accepted}
+use Rattle.run_laws.specs.OwnLaws.{Accepted}
 use Rattle.own_laws.proofs.Reached.{false_true}
 use Rattle.side_model.specs.Hart.{Regs, get}
-use Rattle.side_model.specs.Tables.{Tabs, all_regions}
+use Rattle.code_model.specs.Tables.{Tabs, all_regions}
 use Rattle.side_model.specs.Places.{width_of}
 use Rattle.side_model.specs.Words.{Point}
 use Rattle.side_model.specs.Sees.{HasRegs}

@@ -19,10 +19,10 @@ use Rattle.program_model.specs.PlainRun.{State, Call, Step, Went, Traps, perform
 use Rattle.run_model.specs.Run.{World, Run, Answer}
 use Rattle.run_model.specs.OwnMoves.{own_step, restarted}
 use Rattle.run_model.specs.Moves.{Moves, begun, silent, step, run}
-use Rattle.run_model.specs.OwnLaws.{Accepted}
+use Rattle.run_laws.specs.OwnLaws.{Accepted}
 use Rattle.run_model.specs.Restarts.{instr_at, reads}
 use Rattle.run_model.specs.Marks.{no_marks, marks_with}
-use Rattle.own_laws.specs.StubLaws.{RestartsFromBox, IsBoxed}
+use Rattle.run_laws.specs.StubLaws.{RestartsFromBox, IsBoxed}
 use Rattle.own_laws.proofs.HeldRuns.{restart_has_box}
 use Rattle.own_laws.proofs.OneCall.{program_stub}
 use Rattle.own_laws.proofs.OwnLaws.{own_side}
@@ -30,7 +30,8 @@ use Rattle.own_laws.proofs.OwnSide.{OwnSide, in_program, in_stub, at_call, waits
 use Rattle.own_laws.proofs.Reached.{none_some, false_true}
 use Rattle.own_laws.proofs.Side.{side_of, Side, Tally}
 use Rattle.side_model.specs.Hart.{Regs}
-use Rattle.side_model.specs.Tables.{Tabs, HasTabs, TableOk}
+use Rattle.code_model.specs.Tables.{Tabs, TableOk}
+use Rattle.side_model.specs.Tables.{HasTabs}
 use Rattle.side_model.specs.Sees.{shade_of}
 use Rattle.side_model.proofs.Registers.{regs_of, HasRegs-of}
 use Rattle.rows_log.specs.CallRows.{IsSite}

@@ -18,11 +18,11 @@ use Rattle.run_model.specs.Run.{World, Run}
 use Rattle.run_model.specs.ShadowMoves.{is_arrival}
 use Rattle.run_model.specs.Restarts.{instr_at, from_restart}
 use Rattle.run_model.specs.Marks.{Marks, marks}
-use Rattle.run_model.specs.HintLaws.{is_ecall, is_behind_call}
-use Rattle.run_model.specs.OwnLaws.{Accepted}
+use Rattle.run_laws.specs.HintLaws.{is_ecall, is_behind_call}
+use Rattle.run_laws.specs.OwnLaws.{Accepted}
 use Rattle.own_laws.proofs.Reached.{none_some, false_true}
 use Rattle.side_model.specs.Hart.{Regs, Priv}
-use Rattle.side_model.specs.Tables.{Tabs}
+use Rattle.code_model.specs.Tables.{Tabs}
 use Rattle.side_model.specs.Places.{Place, InBlock, InHelper, Away, address, HasBlock}
 use Rattle.side_model.specs.Sees.{Shade}
 use Rattle.side_model.specs.JumpRows.{JumpRow, j1, j2, j3, j4, j5, j6, j7, j8, j9, j10, j11, j12, j13, j14, j15, j16, lands, faults}

@@ -10,8 +10,8 @@ use Rattle.run_model.specs.Run.{World, Run}
 use Rattle.run_model.specs.ShadowMoves.{is_arrival}
 use Rattle.run_model.specs.Restarts.{from_restart, reads, before_horizon}
 use Rattle.run_model.specs.Marks.{Marks, marks, before_use}
-use Rattle.run_model.specs.HintLaws.{is_behind_call, hinted_up_to}
-use Rattle.side_model.specs.Tables.{all_regions}
+use Rattle.run_laws.specs.HintLaws.{is_behind_call, hinted_up_to}
+use Rattle.code_model.specs.Tables.{all_regions}
 use Rattle.side_model.specs.Sees.{HasRegs}
 use Rattle.mark_laws.specs.Agreement.{Agrees, SeesAlike}
 use Rattle.mark_laws.specs.Settled.{settled_with}

@@ -17,13 +17,14 @@ use Rattle.code_model.specs.Places.{block_at, FAULT}
 use Rattle.code_model.specs.Regions.{shadowed, byte_by_entry, entry_of}
 use Rattle.run_model.specs.Run.{World, Run, Answer}
 use Rattle.run_model.specs.ShadowMoves.{shadow_step, is_arrival, shadow_plan, fetch_shadow}
-use Rattle.run_model.specs.OwnLaws.{Accepted}
+use Rattle.run_laws.specs.OwnLaws.{Accepted}
 use Rattle.run_model.specs.Restarts.{Action, TakesName, from_restart, instr_at, call_action, nothing, reads}
 use Rattle.run_model.specs.Marks.{Marks, no_marks, marks, marks_with, name_is_marked, is_use, some_use, before_use, before_use_with}
-use Rattle.run_model.specs.HintLaws.{is_ecall, is_behind_call}
+use Rattle.run_laws.specs.HintLaws.{is_ecall, is_behind_call}
 use Rattle.side_model.specs.Hart.{Regs, get, put}
 use Rattle.side_model.specs.Sees.{shade_of}
-use Rattle.side_model.specs.Tables.{Tabs, HasTabs, all_regions}
+use Rattle.code_model.specs.Tables.{Tabs, all_regions}
+use Rattle.side_model.specs.Tables.{HasTabs}
 use Rattle.rows_log.specs.RestartRows.{IsFresh}
 use Rattle.rows_log.proofs.PlannedReads.{data-region}
 use Rattle.shadow_laws.proofs.TextBlocks.{text}

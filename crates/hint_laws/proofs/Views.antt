@@ -23,7 +23,8 @@ use Rattle.run_model.specs.Marks.{Marks, mark_bytes}
 use Rattle.own_laws.proofs.Reached.{false_true}
 use Rattle.side_model.specs.Hart.{Regs, get}
 use Rattle.side_model.specs.Sees.{HasRegs}
-use Rattle.side_model.specs.Tables.{Tabs, HasTabs}
+use Rattle.code_model.specs.Tables.{Tabs}
+use Rattle.side_model.specs.Tables.{HasTabs}
 use Rattle.rows_access.specs.Accesses.{Allows, seen}
 use Rattle.rows_access.specs.StoreRows.{with_stored}
 use Rattle.rows_access.proofs.AccessPlaces.{seen-shadowed}

@@ -10,7 +10,7 @@ use Rattle.code_model.specs.Places.{RESTART, FAULT}
 use Rattle.run_model.specs.Run.{World}
 use Rattle.own_laws.proofs.Reached.{false_true}
 use Rattle.side_model.specs.Hart.{Regs, get, Priv}
-use Rattle.side_model.specs.Tables.{Tabs}
+use Rattle.code_model.specs.Tables.{Tabs}
 use Rattle.side_model.specs.Places.{Restarting, Place, InHelper, Faulting, address}
 use Rattle.side_model.specs.Sees.{Shade}
 use Rattle.side_model.specs.JumpRows.{JumpRow, faults}

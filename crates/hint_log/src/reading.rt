@@ -3,9 +3,9 @@
 ghost use Rattle.std.specs.Prelude.{◌≡◌, ◌+◌, ◌%◌, ◌<◌, ◌≤◌, SomeIff};
 ghost use Rattle.spec_base.specs.Layout.{link_start, link_bytes};
 ghost use Rattle.rv_model.specs.Memory.{loaded};
-ghost use Rattle.code_model.specs.Log.{boxed, boxed_site, log_head, log_place, log_tail, logged};
+ghost use Rattle.code_model.specs.Log.{boxed, boxed_site, log_head, log_place, log_tail, logged, IsQueue};
 ghost use Rattle.hart_mem.specs.Held.{space_of};
-ghost use Rattle.hint_log.specs.Log.{IsQueue, log_length};
+ghost use Rattle.hint_log.specs.Log.{log_length};
 
 use assembler::place::BOX_START;
 use hart_mem::{Mem, Width};

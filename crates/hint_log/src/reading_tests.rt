@@ -2,7 +2,7 @@
 
 ghost use Rattle.std.specs.Prelude.{◌≡◌, IsTrue};
 ghost use Rattle.hart_mem.specs.Held.{space_of};
-ghost use Rattle.hint_log.specs.Log.{IsQueue};
+ghost use Rattle.code_model.specs.Log.{IsQueue};
 
 use crate::reading::{boxed, boxed_site, entry, head, len, tail};
 use assembler::x;

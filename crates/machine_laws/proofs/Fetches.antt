@@ -23,7 +23,7 @@ use Rattle.code_model.specs.Helpers.{helpers}
 use Rattle.code_model.specs.Stub.{stub}
 use Rattle.run_model.specs.Run.{World, Run, rewritten_text, rewritten_words}
 use Rattle.run_model.specs.ShadowMoves.{fetch_shadow, fetch_by}
-use Rattle.run_model.specs.OwnLaws.{Accepted}
+use Rattle.run_laws.specs.OwnLaws.{Accepted}
 use Rattle.machine_laws.specs.OneMachine.{shadow_text, space_of_run, instr_in, FetchesSame, AreWords, CodeIsWords}
 use Rattle.machine_laws.proofs.PatchedWords.{patched_decodes, patched-bits}
 use Rattle.machine_laws.proofs.Fits.{Each, none, one, joined, words_decode, word-bits}

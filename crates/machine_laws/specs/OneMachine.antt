@@ -19,7 +19,7 @@ use Rattle.code_model.specs.Stub.{stub}
 use Rattle.run_model.specs.Run.{World, Run, Answer, rewritten_text, rewritten_words}
 use Rattle.run_model.specs.OwnMoves.{program_step, program_after, stub_step, stub_after}
 use Rattle.run_model.specs.ShadowMoves.{fetch_shadow, arrived, shadow_after, shadow_step, word_counted}
-use Rattle.run_model.specs.OwnLaws.{Accepted}
+use Rattle.run_laws.specs.OwnLaws.{Accepted}
 
 -- ---- the memory of a run
 

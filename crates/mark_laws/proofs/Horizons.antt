@@ -18,7 +18,7 @@ use Rattle.run_model.specs.Run.{World, Run}
 use Rattle.run_model.specs.Moves.{run}
 use Rattle.run_model.specs.Restarts.{Action, Loads, Stores, Reads, TakesName, Other, name_action, action_by, call_action, instr_action, instr_at, some_action, action, from_restart, nothing, read_leaves, unfilled_by, unfilled_with, unfilled, touches, before_horizon}
 use Rattle.run_model.specs.Marks.{Marks, with_mark, mark_register, marks_after_call, marks_after, marks_after_some, marks_with, marks, name_is_marked, is_use, some_use, before_use_with, before_use}
-use Rattle.run_model.specs.HintLaws.{UseIsAfterHorizon}
+use Rattle.run_laws.specs.HintLaws.{UseIsAfterHorizon}
 use Rattle.own_laws.proofs.Reached.{false_true}
 use Rattle.mark_laws.proofs.OneInstruction.{true_false}
 

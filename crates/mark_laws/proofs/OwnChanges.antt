@@ -21,7 +21,7 @@ use Rattle.run_model.specs.Run.{World, Run, RunEnd, Answer, Usual, Took, Failed,
 use Rattle.run_model.specs.OwnMoves.{program_after, program_at, stub_after, stub_at, stub_stores, gate_step, own_call_step, read_on, look_done, write_step, own_in, own_unless}
 use Rattle.run_model.specs.Moves.{Moves, begun, step, step_unless, run, run_from}
 use Rattle.run_model.specs.Restarts.{from_restart, action}
-use Rattle.run_model.specs.OwnLaws.{Accepted, OwnIs}
+use Rattle.run_laws.specs.OwnLaws.{Accepted, OwnIs}
 use Rattle.own_laws.proofs.OwnLaws.{own_follows}
 use Rattle.mark_laws.specs.Settled.{changes, IsCovered, OwnChangesAreCovered}
 use Rattle.mark_laws.proofs.Horizons.{and_left}

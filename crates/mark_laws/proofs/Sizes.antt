@@ -29,7 +29,7 @@ use Rattle.code_model.specs.Stub.{stub}
 use Rattle.run_model.specs.Run.{World, Run, RunEnd, Answer, Usual, Took, Failed, Lost, opened_run, rewritten_text}
 use Rattle.run_model.specs.OwnMoves.{program_after, program_at, own_call_step, read_on, look_done, write_step, taken_in, gate_step, stub_stores, stub_after, stub_at, own_in, own_unless}
 use Rattle.run_model.specs.Moves.{Moves, step, step_unless, begun, run, run_from, fetch_of, fetch_ends, fetch_failed, landed_with}
-use Rattle.run_model.specs.OwnLaws.{Accepted}
+use Rattle.run_laws.specs.OwnLaws.{Accepted}
 use Rattle.own_laws.proofs.InvisibleShadow.{shadow_move-keeps}
 use Rattle.own_laws.proofs.Reached.{none_some}
 use Rattle.own_laws.proofs.Side.{Side, side_of, Kept}

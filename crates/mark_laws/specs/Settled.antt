@@ -6,7 +6,7 @@ use Rattle.program_model.specs.PlainRun.{State}
 use Rattle.spec_base.specs.declared.note.Move.TheVariants.{O}
 use Rattle.run_model.specs.Run.{World, Run, Answer}
 use Rattle.run_model.specs.Moves.{Moves, step, run}
-use Rattle.run_model.specs.OwnLaws.{Accepted}
+use Rattle.run_laws.specs.OwnLaws.{Accepted}
 use Rattle.run_model.specs.Restarts.{Action, Loads, Stores, Reads, TakesName, Other, from_restart, action, reads, unfilled_with, before_horizon}
 use Rattle.run_model.specs.Marks.{marks_with, before_use_with}
 

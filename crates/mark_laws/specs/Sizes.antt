@@ -9,7 +9,7 @@ use Rattle.program_model.specs.PlainRun.{State, Image, Taken, size_in, plan_of, 
 use Rattle.run_model.specs.Run.{World, Run}
 use Rattle.run_model.specs.Moves.{Moves, run}
 use Rattle.run_model.specs.Restarts.{from_restart}
-use Rattle.run_model.specs.OwnLaws.{Accepted}
+use Rattle.run_laws.specs.OwnLaws.{Accepted}
 use Rattle.mark_laws.specs.Agreement.{assumed_answer, HasAll}
 
 -- each descriptor of a file has that file's size

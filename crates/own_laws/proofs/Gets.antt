@@ -20,7 +20,7 @@ use Rattle.code_model.specs.Patch.{patched_instr}
 use Rattle.run_model.specs.Run.{World, Run, Answer, Usual, Took, Failed, Lost}
 use Rattle.run_model.specs.OwnMoves.{entered, program_after, program_at, program_step, own_call_step, read_on, look_done, write_step, write_done, own_step, own_unless}
 use Rattle.run_model.specs.Moves.{step, step_unless, begun, fetch_step, fetch_of, fetch_ends, fetch_failed, landed_with, cached_too}
-use Rattle.run_model.specs.OwnLaws.{Accepted}
+use Rattle.run_laws.specs.OwnLaws.{Accepted}
 use Rattle.code_model.proofs.Alike.{gated, effect-patched, fetched-map}
 use Rattle.own_laws.proofs.Demand.{rank, rank-stub, rank-program, call_rank, call_rank-most, Demand, calm, GatherOf, gather-of, few_blocks, Small, plan-small}
 use Rattle.own_laws.proofs.InvisibleShadow.{shadow_move-keeps}
@@ -133,9 +133,9 @@ module _ (w : World) (x : Answer) where
   word-lowers : (r next : Run) (q : State) (t : Tally) (k : ℕ) (rs : Registers) (page : Memory) → side_of r ≡ stub_side q t k rs page
       → is_some r.cache.demanded ≡ false → WordGoes q t k r.cache r.shared r.shadow.state next → Gets r next
   word-lowers r next q t k rs page e f (to_row l x29 x30 x31 page' row is less same held) = lowers r next q t t k l rs _ page page' e is refl refl less f same
-  word-lowers r next q t k rs page e f (to_restarted c page' s is less same full left) =
+  word-lowers r next q t k rs page e f (to_restarted c page' s is less same full left runs) =
       lowers r next q t (restarted_tally q t) k 71 rs _ page page' e is refl refl less f same
-  word-lowers r next q t k rs page e f (to_call page' is less same left) = lowers r next q t t k 26 rs _ page page' e is refl refl less f same
+  word-lowers r next q t k rs page e f (to_call page' is less same left f' goes) = lowers r next q t t k 26 rs _ page page' e is refl refl less f same
 
   -- ---- an own move
 

@@ -5,7 +5,7 @@ use Rattle.spec_base.specs.Word.{byte_of}
 use Rattle.rv_model.specs.Memory.{Memory, stored}
 use Rattle.rv_model.specs.Registers.{Registers, reg}
 use Rattle.code_model.specs.Log.{log_head, log_tail, log_place, logged, boxed_site, boxed}
-use Rattle.own_laws.specs.StubLaws.{Appends, IsOldest, IsEmpty, without_oldest}
+use Rattle.run_laws.specs.StubLaws.{Appends, IsOldest, IsEmpty, without_oldest}
 use Rattle.rv_model.proofs.Loads.{loaded-below_patch, loaded-above_patch, loaded-stored}
 
 -- ---- appending

@@ -11,7 +11,7 @@ use Rattle.program_model.specs.Calls.{key_of}
 use Rattle.program_model.specs.PlainRun.{State, plan_of}
 use Rattle.code_model.specs.Log.{log_head, log_tail, log_place, logged}
 use Rattle.run_model.specs.Run.{World, Run, Answer}
-use Rattle.own_laws.specs.StubLaws.{Appends, IsOldest, IsEmpty, Outcome, keyless, takes, empties}
+use Rattle.run_laws.specs.StubLaws.{Appends, IsOldest, IsEmpty, Outcome, keyless, takes, empties}
 use Rattle.own_laws.proofs.LogChanges.{Appends-same, takes-oldest, head-emptied, tail-emptied, empty-box_stored, BoxedTo, site_boxed, register_boxed}
 use Rattle.rv_model.proofs.Loads.{loaded-stored}
 use Rattle.own_laws.proofs.Side.{side_of, with_side, Tally}

@@ -7,7 +7,7 @@ use Rattle.program_model.specs.Calls.{CallPlan, Set, Look, Read, Write, Exit}
 use Rattle.program_model.specs.PlainRun.{State, performed}
 use Rattle.run_model.specs.Run.{World, Run}
 use Rattle.run_model.specs.Moves.{run}
-use Rattle.own_laws.specs.StubLaws.{IsLeaving, leave_word, IsOneCall, StubIsOneCall}
+use Rattle.run_laws.specs.StubLaws.{IsLeaving, leave_word, IsOneCall, StubIsOneCall}
 use Rattle.own_laws.proofs.OwnLaws.{own_side}
 use Rattle.own_laws.proofs.OwnSide.{OwnSide, in_program, in_stub, at_call, waits, called, over, plan}
 use Rattle.own_laws.proofs.Reached.{none_some}

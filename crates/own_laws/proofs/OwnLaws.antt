@@ -6,7 +6,7 @@ use Rattle.program_model.specs.PlainRun.{State, Output, state_after, all_taken}
 use Rattle.run_model.specs.Run.{World, Run, opened_run}
 use Rattle.run_model.specs.Moves.{Moves, run}
 use Rattle.run_model.specs.Restarts.{from_restart}
-use Rattle.run_model.specs.OwnLaws.{Accepted, Preserved, puts_of, OwnIs, OwnFollows}
+use Rattle.run_laws.specs.OwnLaws.{Accepted, Preserved, puts_of, OwnIs, OwnFollows}
 use Rattle.own_laws.proofs.OwnSide.{OwnSide, in_program, Follows, follows, run-goes}
 use Rattle.own_laws.proofs.Reached.{Fixes, Fixes-counts_of, none_some, false_true}
 use Rattle.own_laws.proofs.Side.{side_of, tally_of}

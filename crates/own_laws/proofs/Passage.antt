@@ -24,8 +24,8 @@ use Rattle.run_model.specs.Run.{World, Run, RunEnd, Answer, Usual, Took, Failed,
 use Rattle.run_model.specs.OwnMoves.{program_after, program_at, program_step, own_call_step, read_on, look_done, write_step, write_done, taken_in, own_step}
 use Rattle.run_model.specs.ShadowMoves.{shadow_in, shadow_step}
 use Rattle.run_model.specs.Moves.{Moves, step, step_unless, begun, run, run_from, fetch_of, fetch_ends, fetch_failed, landed_with, shadow_while}
-use Rattle.run_model.specs.OwnLaws.{Accepted, IsShadowMove}
-use Rattle.own_laws.specs.StubLaws.{IsLeaving, IsLog, Appends, Outcome, keyless, takes, empties, without_oldest, Passing, restarts_after, IsPassage, TakesOldest, leaves, takes_pair, is_halted, StubKeepsLog, StubTakesOldest}
+use Rattle.run_laws.specs.OwnLaws.{Accepted, IsShadowMove}
+use Rattle.run_laws.specs.StubLaws.{IsLeaving, IsLog, Appends, Outcome, keyless, takes, empties, without_oldest, Passing, restarts_after, IsPassage, TakesOldest, leaves, takes_pair, is_halted, StubKeepsLog, StubTakesOldest}
 use Rattle.code_model.proofs.Alike.{gated, effect-patched, fetched-map}
 use Rattle.own_laws.proofs.InvisibleShadow.{shadow_move-keeps}
 use Rattle.own_laws.proofs.LogChanges.{Appends-again, Appends-same}

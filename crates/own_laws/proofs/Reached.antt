@@ -5,10 +5,11 @@ use Rattle.std.specs.Option.{option_and_then}
 use Rattle.program_model.specs.PlainRun.{State, Taken, Step, Went, next, next_state, next_unless, completed, state_after, plain_state, all_taken, end_of, end_of_step, end_unless, plan_of}
 use Rattle.rv_model.specs.Memory.{Memory, bytes_at}
 use Rattle.run_model.specs.Run.{World}
-use Rattle.run_model.specs.OwnLaws.{Accepted, counts_of}
+use Rattle.run_laws.specs.OwnLaws.{Accepted, counts_of}
 use Rattle.spec_base.specs.Layout.{image_limit}
 use Rattle.program_model.specs.Calls.{key_of}
-use Rattle.own_laws.proofs.Offsets.{Lawful, start-lawful, key-small}
+use Rattle.run_laws.specs.Numbers.{Lawful}
+use Rattle.own_laws.proofs.Offsets.{start-lawful, key-small}
 use Rattle.own_laws.proofs.Bounds.{Sized, reached-sized, plan-fits}
 use Rattle.own_laws.proofs.Side.{Tally}
 

@@ -5,7 +5,7 @@ use Rattle.spec_base.specs.declared.spot.BlockSpot.{BlockSpot}
 use Rattle.rv_model.specs.Memory.{Memory}
 use Rattle.program_model.specs.PlainRun.{State}
 use Rattle.run_model.specs.Run.{Run, RunEnd}
-use Rattle.run_model.specs.OwnLaws.{OwnPart, own_part}
+use Rattle.run_laws.specs.OwnLaws.{OwnPart, own_part}
 
 -- ---- counts
 

@@ -9,7 +9,7 @@ use Rattle.rv_decode.specs.declared.instr.Instr.{Instr}
 use Rattle.rv_model.specs.Effect.{fetched}
 use Rattle.program_model.specs.PlainRun.{text_of}
 use Rattle.run_model.specs.Run.{World}
-use Rattle.run_model.specs.OwnLaws.{Accepted}
+use Rattle.run_laws.specs.OwnLaws.{Accepted}
 use Rattle.own_laws.proofs.Reached.{none_some}
 
 -- what is fetched stands in the text

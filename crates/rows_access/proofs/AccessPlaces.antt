@@ -13,7 +13,8 @@ use Rattle.rv_decode.specs.declared.instr.StoreOp.TheVariants.{Sb, Sh, Sw, Sd}
 use Rattle.rv_model.specs.Memory.{Memory, loaded}
 use Rattle.rv_model.specs.Arithmetic.{load_width, store_width}
 use Rattle.code_model.specs.Regions.{shadowed, entry_address, slot_address, byte_by_entry, copy_place}
-use Rattle.side_model.specs.Tables.{HasTabs, Tabs, TableOk, all_regions}
+use Rattle.code_model.specs.Tables.{Tabs, TableOk, all_regions}
+use Rattle.side_model.specs.Tables.{HasTabs}
 use Rattle.side_model.specs.Places.{Width, W1, W2, W4, W8, width_of}
 use Rattle.rows_access.specs.Accesses.{load_size, store_size, place_of, seen}
 

@@ -14,7 +14,7 @@ use Rattle.code_model.specs.Assembly.{diff}
 use Rattle.code_model.specs.Places.{STORE8, FAULT}
 use Rattle.code_model.specs.Helpers.{access_helper}
 use Rattle.side_model.specs.Hart.{Regs, Priv}
-use Rattle.side_model.specs.Tables.{Tabs, TableOk}
+use Rattle.code_model.specs.Tables.{Tabs, TableOk}
 use Rattle.side_model.specs.Places.{Width, W1, W2, W4, W8, width_of, Helper, Faulting, offset_of, helper_words, reaching, Place, InHelper, code}
 use Rattle.side_model.specs.Words.{exec_some}
 use Rattle.side_model.specs.Rows.{Led, on, leaps, parks}

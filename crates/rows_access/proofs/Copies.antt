@@ -7,7 +7,8 @@ use Rattle.spec_base.specs.Layout.{range_start, range_end, copies_start}
 use Rattle.spec_base.specs.declared.layout.Layout.{Layout}
 use Rattle.rv_model.specs.Memory.{Memory, patched, loaded, stored, is_within}
 use Rattle.code_model.specs.Regions.{slot_address, byte_by_entry, copy_place}
-use Rattle.side_model.specs.Tables.{Tabs, TableOk, with_value}
+use Rattle.code_model.specs.Tables.{Tabs, TableOk}
+use Rattle.side_model.specs.Tables.{with_value}
 use Rattle.side_model.specs.Places.{Width, width_of}
 use Rattle.rows_access.specs.Accesses.{seen, Allows}
 use Rattle.rows_access.specs.StoreRows.{with_stored}

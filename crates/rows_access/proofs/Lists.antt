@@ -3,7 +3,8 @@ use Rattle.std.proofs.Common.{◌≡◌, ℕ, ◌+◌, ◌-◌, ◌<◌, ◌≤�
 use Rattle.std.proofs.lemmas.Bool.Decides.{nat_tests}
 use Rattle.spec_base.specs.declared.layout.Layout.{Layout}
 use Rattle.code_model.specs.Regions.{entry_address}
-use Rattle.side_model.specs.Tables.{Tabs, TableOk, all_regions, with_value}
+use Rattle.code_model.specs.Tables.{Tabs, TableOk, all_regions}
+use Rattle.side_model.specs.Tables.{with_value}
 
 -- a function with another value elsewhere
 pub elsewhere : (n k v : ℕ) (f : ℕ → ℕ) → (k == n) ≡ false → with_value n v f k ≡ f k

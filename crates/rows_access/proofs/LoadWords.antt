@@ -15,7 +15,7 @@ use Rattle.code_model.specs.Blocks.{block, load_helper, load_restore}
 use Rattle.code_model.specs.Places.{block_at}
 use Rattle.code_model.specs.Regions.{copy_place}
 use Rattle.side_model.specs.Hart.{Regs, get, put, Priv}
-use Rattle.side_model.specs.Tables.{Tabs, TableOk}
+use Rattle.code_model.specs.Tables.{Tabs, TableOk}
 use Rattle.side_model.specs.Places.{Width, W1, W2, W4, W8, width_of, Loading, LoadTail, offset_of, Place, InBlock, InHelper, code, HasBlock}
 use Rattle.side_model.specs.Words.{Out, Goes, Loads, exec, exec_some}
 use Rattle.side_model.specs.Rows.{Led, on, leaps, arrives, takes_entry, takes_program, takes_copy}

@@ -9,7 +9,7 @@ use Rattle.rv_model.specs.Memory.{Memory, is_within}
 use Rattle.rv_model.specs.Arithmetic.{store_width}
 use Rattle.code_model.specs.Regions.{slot_address}
 use Rattle.side_model.specs.Hart.{Regs, get, Priv}
-use Rattle.side_model.specs.Tables.{Tabs}
+use Rattle.code_model.specs.Tables.{Tabs}
 use Rattle.side_model.specs.Places.{Place, width_of}
 use Rattle.rows_access.specs.Accesses.{store_size, may_access, Allows}
 use Rattle.rows_access.specs.StoreRows.{with_stored, Stage, Before, Copying, Listed, Counting, Found, After, StoreRow, b8, b9, x8, x9, x10, HasBytes, AtStage, StoreKeeps}

@@ -18,7 +18,8 @@ use Rattle.code_model.specs.Blocks.{block, with_pad, access_words, store_helper,
 use Rattle.code_model.specs.Places.{block_at}
 use Rattle.code_model.specs.Regions.{entry_address, listed_address, slot_address, copy_place}
 use Rattle.side_model.specs.Hart.{Regs, get, Priv}
-use Rattle.side_model.specs.Tables.{Tabs, TableOk, all_regions, with_value}
+use Rattle.code_model.specs.Tables.{Tabs, TableOk, all_regions}
+use Rattle.side_model.specs.Tables.{with_value}
 use Rattle.side_model.specs.Places.{Width, W1, W2, W4, W8, width_of, Storing, StoreTail, FullUp, offset_of, Place, InBlock, InHelper, Away, code, is_inner, HasBlock}
 use Rattle.side_model.specs.Words.{Out, Goes, Loads, Stores, exec_some}
 use Rattle.side_model.specs.Rows.{Led, on, leaps, arrives, takes_entry, takes_count, takes_program, puts_entry, puts_count, puts_listed, puts_copy, parks}

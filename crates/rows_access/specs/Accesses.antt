@@ -12,7 +12,7 @@ use Rattle.rv_model.specs.Memory.{Memory, all_from}
 use Rattle.rv_model.specs.Rights.{is_data}
 use Rattle.code_model.specs.Regions.{byte_by_entry, copy_place}
 use Rattle.side_model.specs.Hart.{Regs, Priv}
-use Rattle.side_model.specs.Tables.{Tabs}
+use Rattle.code_model.specs.Tables.{Tabs}
 use Rattle.side_model.specs.Places.{Width, W1, W2, W4, W8, width_of}
 
 -- ---- widths

@@ -4,7 +4,7 @@ use Rattle.spec_base.specs.Word.{word_of_int}
 use Rattle.spec_base.specs.Layout.{range_start, range_end}
 use Rattle.spec_base.specs.declared.layout.Layout.{Layout}
 use Rattle.side_model.specs.Hart.{Regs, Priv}
-use Rattle.side_model.specs.Tables.{Tabs}
+use Rattle.code_model.specs.Tables.{Tabs}
 use Rattle.side_model.specs.Places.{Width, width_of, Helper, Faulting, reaching, Place, InHelper}
 use Rattle.side_model.specs.JumpRows.{high_part, with_31, with_30_31}
 use Rattle.rows_access.specs.Accesses.{may_access, asked, linked, saved}

@@ -15,7 +15,7 @@ use Rattle.code_model.specs.Blocks.{block, load_helper}
 use Rattle.code_model.specs.Places.{block_at}
 use Rattle.code_model.specs.Regions.{entry_address}
 use Rattle.side_model.specs.Hart.{Regs, get, put, Priv}
-use Rattle.side_model.specs.Tables.{Tabs, TableOk}
+use Rattle.code_model.specs.Tables.{Tabs, TableOk}
 use Rattle.side_model.specs.Places.{Width, Loading, LoadTail, Place, InBlock, InHelper, code}
 use Rattle.side_model.specs.Words.{exec_some}
 use Rattle.side_model.specs.Rows.{Led}

@@ -16,7 +16,8 @@ use Rattle.code_model.specs.Blocks.{block, store_helper}
 use Rattle.code_model.specs.Places.{block_at}
 use Rattle.code_model.specs.Regions.{entry_address, slot_address, copy_place}
 use Rattle.side_model.specs.Hart.{Regs, get, Priv}
-use Rattle.side_model.specs.Tables.{Tabs, TableOk, with_value}
+use Rattle.code_model.specs.Tables.{Tabs, TableOk}
+use Rattle.side_model.specs.Tables.{with_value}
 use Rattle.side_model.specs.Places.{Width, Storing, StoreTail, FullUp, Place, InBlock, InHelper, code}
 use Rattle.side_model.specs.Words.{exec_some}
 use Rattle.side_model.specs.Rows.{Led}

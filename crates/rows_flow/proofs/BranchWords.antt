@@ -12,7 +12,7 @@ use Rattle.rv_model.specs.Effect.{Next, effect}
 use Rattle.code_model.specs.Blocks.{block, is_target, taken_word}
 use Rattle.code_model.specs.Places.{block_at}
 use Rattle.side_model.specs.Hart.{Regs, Priv}
-use Rattle.side_model.specs.Tables.{Tabs, TableOk}
+use Rattle.code_model.specs.Tables.{Tabs, TableOk}
 use Rattle.side_model.specs.Places.{Place, InBlock, code, HasBlock}
 use Rattle.side_model.specs.Words.{Out, exec, exec_some}
 use Rattle.side_model.specs.Rows.{on, leaps, arrives, parks}

@@ -11,7 +11,7 @@ use Rattle.rv_model.specs.Effect.{Next, steps_on, after}
 use Rattle.code_model.specs.Assembly.{diff, lo}
 use Rattle.code_model.specs.Places.{block_at}
 use Rattle.side_model.specs.Hart.{Regs, get, put}
-use Rattle.side_model.specs.Tables.{Tabs}
+use Rattle.code_model.specs.Tables.{Tabs}
 use Rattle.side_model.specs.Places.{HasBlock}
 use Rattle.side_model.specs.JumpRows.{high_part}
 use Rattle.side_model.specs.Sees.{HasRegs}

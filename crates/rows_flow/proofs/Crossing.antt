@@ -16,7 +16,8 @@ use Rattle.code_model.specs.Places.{block_at}
 use Rattle.run_model.specs.Run.{World, Run, Answer, rewritten_words}
 use Rattle.run_model.specs.ShadowMoves.{shadow_step, shadow_in, shadow_after, shadow_at_word, arrived_if, word_counted, is_running, is_arrival, fetch_shadow, shadow_plan, fill, hint_given}
 use Rattle.side_model.specs.Hart.{Regs, get, Priv}
-use Rattle.side_model.specs.Tables.{Tabs, HasTabs, TableOk}
+use Rattle.code_model.specs.Tables.{Tabs, TableOk}
+use Rattle.side_model.specs.Tables.{HasTabs}
 use Rattle.side_model.specs.Places.{Place, InBlock, code, address}
 use Rattle.side_model.specs.Words.{Point}
 use Rattle.side_model.specs.Sees.{Shade, shade_of, Sees, Landed, goes_on}

@@ -13,7 +13,7 @@ use Rattle.code_model.specs.Assembly.{ld, lo, X31}
 use Rattle.code_model.specs.Blocks.{is_target, jal_if, with_pad}
 use Rattle.code_model.specs.Places.{block_at}
 use Rattle.side_model.specs.Hart.{Regs, Priv}
-use Rattle.side_model.specs.Tables.{Tabs, TableOk}
+use Rattle.code_model.specs.Tables.{Tabs, TableOk}
 use Rattle.side_model.specs.Places.{Place, InBlock, code, HasBlock}
 use Rattle.side_model.specs.Words.{exec_some}
 use Rattle.side_model.specs.Rows.{on, arrives, parks}

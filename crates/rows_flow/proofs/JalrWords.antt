@@ -14,7 +14,7 @@ use Rattle.code_model.specs.Assembly.{lo}
 use Rattle.code_model.specs.Blocks.{block, link_spill}
 use Rattle.code_model.specs.Places.{block_at}
 use Rattle.side_model.specs.Hart.{Regs, get, put, Priv}
-use Rattle.side_model.specs.Tables.{Tabs, TableOk}
+use Rattle.code_model.specs.Tables.{Tabs, TableOk}
 use Rattle.side_model.specs.Places.{Jumping, Place, InBlock, InHelper, code, HasBlock}
 use Rattle.side_model.specs.Words.{Point, Out, Goes, Parks, exec, exec_some}
 use Rattle.side_model.specs.Rows.{Led, on, leaps, arrives, parks}

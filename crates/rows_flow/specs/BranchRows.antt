@@ -8,7 +8,7 @@ use Rattle.rv_model.specs.Arithmetic.{is_taken}
 use Rattle.code_model.specs.Blocks.{block}
 use Rattle.code_model.specs.Places.{block_at}
 use Rattle.side_model.specs.Hart.{Regs, get, Priv}
-use Rattle.side_model.specs.Tables.{Tabs, TableOk}
+use Rattle.code_model.specs.Tables.{Tabs, TableOk}
 use Rattle.side_model.specs.Places.{Place, InBlock, code}
 use Rattle.side_model.specs.Words.{exec_some}
 use Rattle.rows_flow.specs.Following.{IsInstruction, Follows}

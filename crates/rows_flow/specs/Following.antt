@@ -12,7 +12,7 @@ use Rattle.rv_model.specs.Registers.{Registers}
 use Rattle.rv_model.specs.Rights.{Rights, in_text}
 use Rattle.rv_model.specs.Effect.{Effect, Next, Trapped, effect}
 use Rattle.side_model.specs.Hart.{Regs, Priv}
-use Rattle.side_model.specs.Tables.{Tabs}
+use Rattle.code_model.specs.Tables.{Tabs}
 use Rattle.side_model.specs.Places.{Place}
 use Rattle.side_model.specs.Words.{Out}
 use Rattle.side_model.specs.Rows.{Led}

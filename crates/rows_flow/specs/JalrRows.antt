@@ -9,7 +9,7 @@ use Rattle.rv_model.specs.Memory.{Memory}
 use Rattle.code_model.specs.Blocks.{block}
 use Rattle.code_model.specs.Places.{block_at, JUMP}
 use Rattle.side_model.specs.Hart.{Regs, get, put, Priv}
-use Rattle.side_model.specs.Tables.{Tabs, TableOk}
+use Rattle.code_model.specs.Tables.{Tabs, TableOk}
 use Rattle.side_model.specs.Places.{Jumping, Place, InBlock, InHelper, code}
 use Rattle.side_model.specs.Words.{exec_some}
 use Rattle.side_model.specs.JumpRows.{high_part, with_31, JumpRow, JumpFits}

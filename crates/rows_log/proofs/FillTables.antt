@@ -7,7 +7,8 @@ use Rattle.rv_model.specs.Memory.{Memory, patched, stored}
 use Rattle.rv_model.specs.Space.{program_byte}
 use Rattle.program_model.specs.Descriptors.{slot}
 use Rattle.code_model.specs.Regions.{entry_address, entry_of, listed_address, slot_address, with_copy_at, copy_place, set_in_copies}
-use Rattle.side_model.specs.Tables.{Tabs, HasTabs, TableOk, all_regions, with_value}
+use Rattle.code_model.specs.Tables.{Tabs, TableOk, all_regions}
+use Rattle.side_model.specs.Tables.{HasTabs, with_value}
 use Rattle.side_model.proofs.Tabling.{HasTabs-above, HasTabs-entry, HasTabs-count, HasTabs-listed, all_regions-most}
 
 -- ---- one region gets the next slot

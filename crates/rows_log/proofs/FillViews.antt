@@ -7,7 +7,8 @@ use Rattle.spec_base.specs.declared.layout.Layout.{Layout}
 use Rattle.rv_model.specs.Memory.{Memory, patched, stored, written, is_within}
 use Rattle.rv_model.specs.Space.{program_byte}
 use Rattle.code_model.specs.Regions.{entry_address, entry_of, listed_address, slot_address, byte_by_entry, copy_place, set_in_copies}
-use Rattle.side_model.specs.Tables.{Tabs, HasTabs, TableOk, all_regions}
+use Rattle.code_model.specs.Tables.{Tabs, TableOk, all_regions}
+use Rattle.side_model.specs.Tables.{HasTabs}
 use Rattle.side_model.proofs.Tabling.{HasTabs-above, all_regions-most}
 use Rattle.rows_log.specs.Fills.{seen}
 use Rattle.rows_log.proofs.FillTables.{slotted}

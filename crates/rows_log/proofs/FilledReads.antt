@@ -13,7 +13,8 @@ use Rattle.program_model.specs.Calls.{bytes_read}
 use Rattle.code_model.specs.Regions.{entry_of, slots_in_use, with_copy_at, with_copies, set_in_copies, uncopied, new_regions}
 use Rattle.run_model.specs.Run.{World, Run, rewritten_words}
 use Rattle.run_model.specs.ShadowMoves.{fill, fill_if, filled_copies, is_filled, regions_fit, hint_given}
-use Rattle.side_model.specs.Tables.{Tabs, HasTabs, TableOk, all_regions}
+use Rattle.code_model.specs.Tables.{Tabs, TableOk, all_regions}
+use Rattle.side_model.specs.Tables.{HasTabs}
 use Rattle.side_model.proofs.Numbers.{TextFits, text-fits}
 use Rattle.rows_log.specs.Fills.{seen, bytes_set, IsFilled, FillsKeepTables}
 use Rattle.rows_log.proofs.PlannedReads.{read-planned, all_from-last, data-region}

@@ -17,7 +17,7 @@ use Rattle.program_model.specs.Calls.{CallPlan, Set, Look, Read, Write, Exit, Ca
 use Rattle.code_model.specs.Regions.{shadowed}
 use Rattle.run_model.specs.Run.{World, Run}
 use Rattle.run_model.specs.ShadowMoves.{shadow_plan}
-use Rattle.side_model.specs.Tables.{all_regions}
+use Rattle.code_model.specs.Tables.{all_regions}
 
 -- ---- a read's bytes are data
 

@@ -5,8 +5,8 @@ use Rattle.spec_base.specs.Word.{byte_of}
 use Rattle.spec_base.specs.Layout.{link_start, table_start}
 use Rattle.rv_model.specs.Memory.{Memory, patched, stored, loaded}
 use Rattle.rv_model.proofs.Loads.{loaded-below_patch, loaded-above_patch, loaded-stored}
-use Rattle.code_model.specs.Log.{log_head, log_tail, log_place, logged}
-use Rattle.rows_log.specs.Queue.{IsQueue, HasRoom, LeavesLink, leaves, puts_key, puts_count, raises_tail, KeepsQueue, StepsKeepQueue, LeavingKeepsQueue, TakingKeepsQueue, HeadTakes, StepsLeaveBox, HeadLeavesBox}
+use Rattle.code_model.specs.Log.{log_head, log_tail, log_place, logged, IsQueue}
+use Rattle.rows_log.specs.Queue.{HasRoom, LeavesLink, leaves, puts_key, puts_count, raises_tail, KeepsQueue, StepsKeepQueue, LeavingKeepsQueue, TakingKeepsQueue, HeadTakes, StepsLeaveBox, HeadLeavesBox}
 
 -- ---- a store at the place of a pair, which isn't that of head or tail
 

@@ -16,7 +16,8 @@ use Rattle.code_model.specs.Helpers.{box_loads}
 use Rattle.code_model.specs.Log.{box_start, boxed}
 use Rattle.code_model.specs.Regions.{entry_address, listed_address}
 use Rattle.side_model.specs.Hart.{Regs, get, put, Priv}
-use Rattle.side_model.specs.Tables.{Tabs, TableOk, all_regions, with_value}
+use Rattle.code_model.specs.Tables.{Tabs, TableOk, all_regions}
+use Rattle.side_model.specs.Tables.{with_value}
 use Rattle.side_model.specs.Places.{Restarting, Jumping, Place, InHelper, code, helper_words}
 use Rattle.side_model.specs.Words.{Point, Out, Goes, Loads, Stores, Keys, Calls, Parks, Fails, exec_some}
 use Rattle.side_model.specs.Rows.{Led, on, leaps, arrives, takes_count, takes_listed, takes_link, puts_entry, puts_count, calls, parks}

@@ -1,5 +1,5 @@
 -- The rows of a call's block, and of the helper APPEND, which appends a keyed read to the hint log (this project's own).
-use Rattle.std.specs.Prelude.{ℕ, ◌+◌, ◌-◌, ◌*◌, ◌%◌, ◌^◌, ◌≡◌, ◌≤◌, ◌<◌, true, false, ◌==◌, negsuc, IsTrue}
+use Rattle.std.specs.Prelude.{ℕ, ◌+◌, ◌-◌, ◌*◌, ◌%◌, ◌^◌, ◌≡◌, ◌≤◌, ◌<◌, true, false, ◌==◌, negsuc, IsTrue, Bool, ◌&&◌, not, nat_lt}
 use Rattle.spec_base.specs.Word.{plus_int}
 use Rattle.spec_base.specs.Layout.{is_lawful, helpers_start, link_start}
 use Rattle.spec_base.specs.declared.layout.Layout.{Layout}
@@ -8,15 +8,15 @@ use Rattle.spec_base.specs.declared.park.Park.TheVariants as park
 use Rattle.rv_decode.specs.declared.instr.Instr.TheVariants.{Ecall}
 use Rattle.rv_model.specs.Memory.{Memory}
 use Rattle.code_model.specs.Blocks.{block}
-use Rattle.code_model.specs.Log.{log_head, log_tail, logged}
+use Rattle.code_model.specs.Log.{log_head, log_tail, logged, IsQueue}
 use Rattle.code_model.specs.Places.{block_at, APPEND}
 use Rattle.side_model.specs.Hart.{Regs, get, put, Priv}
-use Rattle.side_model.specs.Tables.{Tabs, TableOk}
+use Rattle.code_model.specs.Tables.{Tabs, TableOk}
 use Rattle.side_model.specs.Places.{Appending, LogFullUp, Place, InBlock, InHelper, code}
 use Rattle.side_model.specs.Words.{exec_some}
 use Rattle.side_model.specs.Rows.{Led}
 use Rattle.side_model.specs.JumpRows.{high_part, with_31, with_30_31}
-use Rattle.rows_log.specs.Queue.{IsQueue, HasRoom, LogStep, Takes}
+use Rattle.rows_log.specs.Queue.{HasRoom, LogStep, Takes}
 
 -- what is so of the address of an instruction of the program
 pub record IsSite (l : Layout) (p : ℕ) : Type 0 where
@@ -127,15 +127,21 @@ module _ (l : Layout) (p : ℕ) (q : Regs) (tail key : ℕ) where
 
 -- ---- what a word leads to
 
--- only HKEY finds a key
-pub data KeyStep (key : ℕ) : Place → ℕ → Type 0 where
-  keeps_key : {place : Place} → KeyStep key place key
-  finds_key : (found : ℕ) → found < 2 ^ 64 → KeyStep key (InHelper Appending 2) found
+-- up to HKEY, word 3 of APPEND, the call's key isn't known
+abbrev pub before_key : Place → Bool
+before_key (InBlock n) = nat_lt n 4
+before_key (InHelper Appending n) = nat_lt n 3
+before_key _ = false
+
+-- from one place to the next: only HKEY finds a key, and it alone leads to where the key is known
+pub data KeyStep (key : ℕ) : Place → Place → ℕ → Type 0 where
+  keeps_key : {from place : Place} → (before_key from && not (before_key place)) ≡ false → KeyStep key from place key
+  finds_key : (found : ℕ) → found < 2 ^ 64 → KeyStep key (InHelper Appending 2) (InHelper Appending 3) found
 
 -- from a word at this place, with this key, these tables and this memory: to the next row, with the tables as they are; or, by the HCALL, to the word behind it, with an answer in x10 and whatever the call leaves
 pub data CallNext (l : Layout) (p : ℕ) (q : Regs) (tail key : ℕ) (from : Place) (t : Tabs) (m : Memory) : Place → Regs → Priv → Tabs → Memory → ℕ → Type 0 where
   word : {place : Place} {rs : Regs} {s : Priv} {m' : Memory} {k : ℕ} (found : ℕ) (stage : Stage) → CallRow l p q tail found place rs s stage k → AtStage tail (get 12 q) stage m'
-      → KeyStep key from found → LogStep (get 12 q) from m m' → CallNext l p q tail key from t m place rs s t m' k
+      → KeyStep key from place found → LogStep (get 12 q) from m m' → CallNext l p q tail key from t m place rs s t m' k
   call : {s : Priv} {t' : Tabs} {m' : Memory} (answer : ℕ) → from ≡ InBlock 6 → answer < 2 ^ 64 → CallNext l p q tail key from t m (InBlock 7) (put 10 answer q) s t' m' 1
 
 -- it parks at LOGFULL only where the log had 64 pairs as its head was loaded

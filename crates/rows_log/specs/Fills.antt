@@ -9,7 +9,8 @@ use Rattle.program_model.specs.Calls.{Read, bytes_read}
 use Rattle.code_model.specs.Regions.{byte_by_entry}
 use Rattle.run_model.specs.Run.{World, Run, rewritten_words}
 use Rattle.run_model.specs.ShadowMoves.{fill, is_filled, hint_given, shadow_plan}
-use Rattle.side_model.specs.Tables.{Tabs, HasTabs, TableOk, all_regions}
+use Rattle.code_model.specs.Tables.{Tabs, TableOk, all_regions}
+use Rattle.side_model.specs.Tables.{HasTabs}
 
 -- the bytes that the shadow has in place of the program's memory, by the table
 abbrev pub seen : Tabs → Memory → Memory → Memory

@@ -3,20 +3,15 @@ use Rattle.std.specs.Prelude.{ℕ, ◌+◌, ◌-◌, ◌^◌, ◌≡◌, ◌≤�
 use Rattle.spec_base.specs.Layout.{link_start, table_start}
 use Rattle.rv_model.specs.Memory.{Memory, stored}
 use Rattle.program_model.specs.Calls.{CallPlan}
-use Rattle.code_model.specs.Log.{log_head, log_tail, log_place, logged, box_start}
+use Rattle.code_model.specs.Log.{log_head, log_tail, log_place, logged, IsQueue, box_start}
 use Rattle.run_model.specs.Run.{World, Run, Answer}
 use Rattle.run_model.specs.ShadowMoves.{assumed}
-use Rattle.own_laws.specs.StubLaws.{Appends}
+use Rattle.run_laws.specs.StubLaws.{Appends}
 use Rattle.side_model.specs.Places.{Place, InHelper, Appending}
 
 -- ---- the queue
 
--- pairs are taken only once they are appended, and at most 64 wait
-pub record IsQueue (link : Memory) : Type 0 where
-  pub order : log_head link ≤ log_tail link
-  pub most : log_tail link ≤ log_head link + 64
-
--- one more fits
+-- one more pair fits
 pub record HasRoom (link : Memory) : Type 0 where
   pub order : log_head link ≤ log_tail link
   pub room : log_tail link < log_head link + 64

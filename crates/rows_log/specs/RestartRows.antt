@@ -10,7 +10,7 @@ use Rattle.code_model.specs.Log.{box_start, boxed_site, boxed}
 use Rattle.code_model.specs.Places.{JUMP}
 use Rattle.code_model.specs.Regions.{listed_address}
 use Rattle.side_model.specs.Hart.{Regs, get, Priv}
-use Rattle.side_model.specs.Tables.{Tabs, TableOk, all_regions}
+use Rattle.code_model.specs.Tables.{Tabs, TableOk, all_regions}
 use Rattle.side_model.specs.Places.{Restarting, Place, InHelper, code}
 use Rattle.side_model.specs.Words.{exec_some}
 use Rattle.side_model.specs.Rows.{Led}

@@ -6,5 +6,3 @@ pub mod Trace
 pub mod Patterns
 pub mod Restarts
 pub mod Marks
-pub mod OwnLaws
-pub mod HintLaws

@@ -12,7 +12,7 @@ use Rattle.code_model.specs.Blocks.{block}
 use Rattle.code_model.specs.Places.{block_at, APPEND}
 use Rattle.own_laws.proofs.Reached.{false_true}
 use Rattle.side_model.specs.Hart.{Regs, put, Priv}
-use Rattle.side_model.specs.Tables.{Tabs, TableOk}
+use Rattle.code_model.specs.Tables.{Tabs, TableOk}
 use Rattle.side_model.specs.Places.{Away, Appending, LogFullUp, Place, InBlock, InHelper, code}
 use Rattle.side_model.specs.Words.{Out, exec_some}
 use Rattle.side_model.specs.Rows.{Led, on, leaps, arrives, takes_link, puts_link, keys, calls, parks}

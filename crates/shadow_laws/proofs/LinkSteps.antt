@@ -18,10 +18,10 @@ use Rattle.code_model.specs.Blocks.{block}
 use Rattle.code_model.specs.Places.{block_at}
 use Rattle.run_model.specs.Run.{World, Run, Answer, rewritten_words}
 use Rattle.run_model.specs.ShadowMoves.{shadow_step, shadow_in, shadow_after, shadow_at_word, shadow_stores, arrived_if, word_counted, is_running, is_arrival, fetch_shadow}
-use Rattle.run_model.specs.OwnLaws.{Accepted}
+use Rattle.run_laws.specs.OwnLaws.{Accepted}
 use Rattle.own_laws.proofs.Reached.{false_true, none_some}
 use Rattle.side_model.specs.Hart.{Regs, Priv}
-use Rattle.side_model.specs.Tables.{Tabs}
+use Rattle.code_model.specs.Tables.{Tabs}
 use Rattle.side_model.specs.Places.{Place, Jumping, Faulting, address, code}
 use Rattle.side_model.specs.Words.{Point, exec_some}
 use Rattle.side_model.specs.Rows.{Led}

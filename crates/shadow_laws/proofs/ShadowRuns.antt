@@ -34,9 +34,9 @@ use Rattle.run_model.specs.Run.{World, Run, RunEnd, Answer, Usual, Took, Failed,
 use Rattle.run_model.specs.OwnMoves.{own_step}
 use Rattle.run_model.specs.ShadowMoves.{fetch_shadow, is_running, is_arrival, arrived_if, word_counted, shadow_plan, assumed, look_assumed, hint_given, fill_if, is_filled, shadow_gate, shadow_stores, shadow_after, shadow_at_word, shadow_in, shadow_step}
 use Rattle.run_model.specs.Moves.{Moves, step, step_unless, begun, run, run_from, shadow_while}
-use Rattle.run_model.specs.OwnLaws.{Accepted, RegionsBounded}
-use Rattle.run_model.specs.HintLaws.{WordsBounded}
-use Rattle.own_laws.specs.StubLaws.{LeavesLink, left, takes_head, is_stopped, RestartsFromBox, IsBoxed}
+use Rattle.run_laws.specs.OwnLaws.{Accepted, RegionsBounded}
+use Rattle.run_laws.specs.HintLaws.{WordsBounded}
+use Rattle.run_laws.specs.StubLaws.{LeavesLink, left, takes_head, is_stopped, RestartsFromBox, IsBoxed}
 use Rattle.own_laws.proofs.HeldRuns.{stub_stops_first, restart_has_box}
 use Rattle.own_laws.proofs.OneCall.{program_stub}
 use Rattle.own_laws.proofs.OwnLaws.{own_side}
@@ -45,11 +45,12 @@ use Rattle.own_laws.proofs.Reached.{none_some, false_true}
 use Rattle.own_laws.proofs.Side.{side_of, Tally}
 use Rattle.side_model.specs.Places.{InHelper, Restarting, HasBlock}
 use Rattle.side_model.specs.Sees.{shade_of}
-use Rattle.side_model.specs.Tables.{Tabs, HasTabs, TableOk}
+use Rattle.code_model.specs.Tables.{Tabs, tabs_of, TableOk}
+use Rattle.side_model.specs.Tables.{HasTabs}
 use Rattle.side_model.proofs.Numbers.{TextFits}
 use Rattle.side_model.proofs.Private.{priv_of, HasPriv-of}
 use Rattle.side_model.proofs.Registers.{regs_of, HasRegs-of}
-use Rattle.side_model.proofs.Tabling.{HasTabs-below, HasTabs-of, tabs_of}
+use Rattle.side_model.proofs.Tabling.{HasTabs-below, HasTabs-of, are-consistent}
 use Rattle.side_model.specs.Hart.{Regs}
 use Rattle.rows_log.specs.CallRows.{IsSite}
 use Rattle.rows_log.specs.RestartRows.{HasBox, RestartRow}
@@ -61,7 +62,7 @@ use Rattle.shadow_laws.proofs.Sound as landing
 use Rattle.shadow_laws.proofs.SoundSteps.{sound-steps, sound-stays, landed, settles}
 use Rattle.shadow_laws.proofs.SoundSteps.{next as step-to}
 use Rattle.shadow_laws.proofs.AnyCalls.{AnyCallRow, b1, next-row, any_call-leads}
-use Rattle.shadow_laws.specs.SoundLaws.{TablesAreConsistent}
+use Rattle.run_laws.specs.SoundLaws.{TablesAreConsistent}
 use Rattle.shadow_laws.proofs.TextBlocks.{text}
 
 -- ---- what a word counts
@@ -115,11 +116,11 @@ after-counts w x r (Gated i) = gate-counts w x r i
 after-counts w x r Called = refl
 
 -- one word more is counted, and an arrival where the shadow runs at word 1 of a block
-record Counted (w : World) (r next : Run) : Type 0 where
-  words : next.since.words ≡ r.since.words + 1
-  regions : next.since.regions ≡ r.since.regions
-  most : r.since.shadow ≤ next.since.shadow
-  arrives : next.shadow.state ≡ Running → is_arrival w.image.layout next.shadow.pc ≡ true → next.since.shadow ≡ r.since.shadow + 1
+pub record Counted (w : World) (r next : Run) : Type 0 where
+  pub words : next.since.words ≡ r.since.words + 1
+  pub regions : next.since.regions ≡ r.since.regions
+  pub most : r.since.shadow ≤ next.since.shadow
+  pub arrives : next.shadow.state ≡ Running → is_arrival w.image.layout next.shadow.pc ≡ true → next.since.shadow ≡ r.since.shadow + 1
 
 arrived-counted : (w : World) (r y : Run) (b : Bool) → counts_of y ≡ counts_of r → (is_running y.shadow.state && is_arrival w.image.layout y.shadow.pc) ≡ b → Counted w r (word_counted (arrived_if b y))
 arrived-counted w r y true e f =
@@ -146,7 +147,7 @@ word-counted w x r (Some i) =
     let e : Effect = effect Shadow (shadow_rights w.image.layout) (shadow_sees w.image.layout (rewritten_words w) r.own.memory r.shared r.shadow_page) r.shadow.registers r.shadow.pc i in
     arrived-counted w r (shadow_after w x r e) _ (after-counts w x r e) refl
 
-running-counted : (w : World) (x : Answer) (r : Run) → r.shadow.state ≡ Running → Counted w r (shadow_step w x r)
+pub running-counted : (w : World) (x : Answer) (r : Run) → r.shadow.state ≡ Running → Counted w r (shadow_step w x r)
 running-counted w x r e = subst (λ s. Counted w r (shadow_in s w x r)) (sym e) (word-counted w x r (fetch_shadow w r.shadow.pc))
 
 -- ---- what is so of the shadow
@@ -233,7 +234,7 @@ module _ (w : World) (a : Accepted w) where
   -- ---- an own move
 
   -- a state that is about to call stands at an instruction of the text
-  call-site : (q : State) → ((i : Instr) → fetched (text_of w.image) l.text_start q.pc ≡ Some i → IsSite l q.pc)
+  pub call-site : (q : State) → ((i : Instr) → fetched (text_of w.image) l.text_start q.pc ≡ Some i → IsSite l q.pc)
   call-site q i e = by_test (nat_le l.text_start q.pc && (q.pc % 4 == 0)) refl e
     where
       by_test : (b : Bool) → (nat_le l.text_start q.pc && (q.pc % 4 == 0)) ≡ b → elim b [ true ↦ slice_get (text_of w.image) ((q.pc - l.text_start) / 4) | false ↦ None ] ≡ Some i → IsSite l q.pc
@@ -388,7 +389,7 @@ regions_bounded w a ms = let y : HasTables w (watched_of (run w ms)) = has-table
 
 -- the table and the list are consistent
 pub tables_consistent : TablesAreConsistent
-tables_consistent w a ms = let y : HasTables w (watched_of (run w ms)) = has-tables w (watched_of (run w ms)) (run-keeps w a ms) in record { tables = y.tables; has = y.has; ok = y.ok }
+tables_consistent w a ms = let y : HasTables w (watched_of (run w ms)) = has-tables w (watched_of (run w ms)) (run-keeps w a ms) in are-consistent y.has y.ok
 
 -- the words of the shadow are few
 pub words_bounded : WordsBounded

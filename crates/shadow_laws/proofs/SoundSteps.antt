@@ -18,10 +18,11 @@ use Rattle.code_model.specs.Places.{block_at}
 use Rattle.code_model.specs.Regions.{entry_address, entry_of, listed_address}
 use Rattle.run_model.specs.Run.{World, Run, Answer, rewritten_words}
 use Rattle.run_model.specs.ShadowMoves.{shadow_step}
-use Rattle.run_model.specs.OwnLaws.{Accepted}
+use Rattle.run_laws.specs.OwnLaws.{Accepted}
 use Rattle.own_laws.proofs.Reached.{none_some}
 use Rattle.side_model.specs.Hart.{Regs, get, put, Priv}
-use Rattle.side_model.specs.Tables.{Tabs, TableOk, HasTabs}
+use Rattle.code_model.specs.Tables.{Tabs, TableOk}
+use Rattle.side_model.specs.Tables.{HasTabs}
 use Rattle.side_model.specs.Places.{Place, InBlock, address, code, HasBlock}
 use Rattle.side_model.specs.Words.{Point, exec_some}
 use Rattle.side_model.specs.Rows.{Led, arrives}

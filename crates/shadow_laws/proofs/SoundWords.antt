@@ -11,15 +11,15 @@ use Rattle.code_model.specs.Blocks.{block}
 use Rattle.code_model.specs.Places.{block_at}
 use Rattle.run_model.specs.Run.{World, Run, Usual, rewritten_words}
 use Rattle.run_model.specs.Moves.{run}
-use Rattle.run_model.specs.OwnLaws.{Accepted}
+use Rattle.run_laws.specs.OwnLaws.{Accepted}
 use Rattle.own_laws.proofs.Reached.{none_some}
 use Rattle.side_model.specs.Hart.{Regs, Priv}
-use Rattle.side_model.specs.Tables.{Tabs}
+use Rattle.code_model.specs.Tables.{Tabs}
 use Rattle.side_model.specs.Places.{Place, code, HasBlock}
 use Rattle.side_model.specs.Words.{exec_some}
 use Rattle.side_model.specs.Rows.{Led}
 use Rattle.side_model.specs.Sees.{shade_of}
-use Rattle.side_model.specs.Completes.{WordCompletes}
+use Rattle.run_laws.specs.Completes.{WordCompletes}
 use Rattle.side_model.proofs.JumpWords.{jump_leads}
 use Rattle.side_model.proofs.NoTraps.{word-no_trap, jump-no_trap}
 use Rattle.rows_access.proofs.LoadWords.{load_leads}
@@ -31,7 +31,7 @@ use Rattle.rows_flow.proofs.BranchWords.{branch_leads}
 use Rattle.rows_flow.proofs.JalWords.{jal_leads}
 use Rattle.rows_flow.proofs.JalrWords.{jalr_leads}
 use Rattle.rows_log.proofs.RestartWords.{restart_leads, restarted_leads}
-use Rattle.shadow_laws.specs.SoundLaws.{NoWordTraps}
+use Rattle.run_laws.specs.SoundLaws.{NoWordTraps}
 use Rattle.shadow_laws.proofs.AnyCalls.{any_call-leads}
 use Rattle.shadow_laws.proofs.ShadowNumbers.{Sized, stock_of, run-sized}
 use Rattle.shadow_laws.proofs.Sound.{bare, At, Sound, computing, quartering, branching, linking, going, jumping, padded, parking, guarded, loading, storing, calling, restarting, unboxing, unknown, pad-target, target-block}

@@ -17,7 +17,7 @@ use Rattle.code_model.specs.Assembly.{X31, ld}
 use Rattle.code_model.specs.Blocks.{block, guard_block, blocks_from, with_pad, park_words}
 use Rattle.code_model.specs.Places.{block_at}
 use Rattle.run_model.specs.Run.{World}
-use Rattle.run_model.specs.OwnLaws.{Accepted}
+use Rattle.run_laws.specs.OwnLaws.{Accepted}
 use Rattle.own_laws.proofs.Reached.{none_some}
 use Rattle.side_model.specs.Places.{IsBase, HasBlock}
 use Rattle.side_model.proofs.Fetching.{CodeAt, block_code}

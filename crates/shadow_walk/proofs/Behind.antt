@@ -14,7 +14,7 @@ use Rattle.code_model.specs.Blocks.{block, next_block}
 use Rattle.code_model.specs.Places.{block_at}
 use Rattle.run_model.specs.Run.{World, Run, Answer}
 use Rattle.run_model.specs.ShadowMoves.{is_arrival, fetch_shadow}
-use Rattle.run_model.specs.OwnLaws.{Accepted}
+use Rattle.run_laws.specs.OwnLaws.{Accepted}
 use Rattle.run_model.specs.Restarts.{instr_at}
 use Rattle.own_laws.proofs.Reached.{false_true}
 use Rattle.side_model.specs.Hart.{Regs, put}
@@ -39,7 +39,7 @@ use Rattle.shadow_walk.specs.Restarts as again
 use Rattle.shadow_walk.specs.Restarts.{StandsAnswered, StandsRestarted, StandsOn, kept_x31, LeavesOwn, Returns, ReturnsAtOnce}
 use Rattle.shadow_walk.specs.declared.walking.Walked.TheVariants as walked
 use Rattle.shadow_walk.proofs.Told.{Tells}
-use Rattle.shadow_walk.proofs.OnTheWay.{sized-of, of-sized}
+use Rattle.shadow_laws.proofs.ShadowNumbers.{sized-of, of-sized}
 use Rattle.shadow_walk.proofs.WalkRows.{within-some}
 use Rattle.shadow_walk.proofs.WalkWords.{shown-register}
 use Rattle.shadow_walk.proofs.Strides.{Stepped}

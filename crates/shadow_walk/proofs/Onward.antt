@@ -15,20 +15,21 @@ use Rattle.code_model.specs.Places.{block_at}
 use Rattle.code_model.specs.Regions.{slots_in_use}
 use Rattle.run_model.specs.Run.{World, Run, Answer}
 use Rattle.run_model.specs.ShadowMoves.{is_arrival, is_call_word, shadow_step, fetch_shadow}
-use Rattle.run_model.specs.OwnLaws.{Accepted}
+use Rattle.run_laws.specs.OwnLaws.{Accepted}
 use Rattle.own_laws.proofs.Reached.{false_true}
 use Rattle.side_model.specs.Hart.{Regs, get}
-use Rattle.side_model.specs.Tables.{Tabs, HasTabs, TableOk}
+use Rattle.code_model.specs.Tables.{Tabs, TableOk}
+use Rattle.side_model.specs.Tables.{HasTabs}
 use Rattle.side_model.specs.Places.{Restarting, InHelper, address, HasBlock}
 use Rattle.side_model.specs.Words.{Point}
 use Rattle.side_model.specs.Sees.{shade_of, Sees, HasRegs}
-use Rattle.side_model.specs.Completes.{WordCompletes}
+use Rattle.run_laws.specs.Completes.{WordCompletes}
 use Rattle.side_model.proofs.Private.{priv_of, HasPriv-of}
 use Rattle.side_model.proofs.Registers as low
 use Rattle.side_model.proofs.Registers.{HasRegs-of}
 use Rattle.rows_log.specs.RestartRows.{HasBox}
 use Rattle.rows_log.proofs.RestartWords.{restart_starts}
-use Rattle.shadow_laws.proofs.ShadowNumbers.{Sized, stock_of, in-keeps}
+use Rattle.shadow_laws.proofs.ShadowNumbers.{Sized, stock_of, in-keeps, sized-of, of-sized}
 use Rattle.shadow_laws.proofs.ShadowRuns.{block-arrives}
 use Rattle.shadow_laws.proofs.Sound.{Target, target-of, parked_running}
 use Rattle.shadow_laws.proofs.TextBlocks.{text}
@@ -51,7 +52,6 @@ use Rattle.shadow_walk.specs.Restarts as again
 use Rattle.shadow_walk.specs.Restarts.{StandsAnew, IsUnboxed, LeavesOwn, Restarts}
 use Rattle.shadow_walk.specs.declared.walking.Walked.TheVariants as walked
 use Rattle.shadow_walk.proofs.Told.{Tells, tells}
-use Rattle.shadow_walk.proofs.OnTheWay.{sized-of, of-sized}
 use Rattle.shadow_walk.proofs.WalkRows.{within-some, AsksIn, Unboxes, within-asks, within-completes}
 use Rattle.shadow_walk.proofs.Strides.{Stepped, IsStray}
 

@@ -16,11 +16,11 @@ use Rattle.program_model.specs.Calls.{key_of, call_plan}
 use Rattle.program_model.specs.PlainRun.{State, plan_of}
 use Rattle.run_model.specs.Run.{World, Run, Answer}
 use Rattle.run_model.specs.ShadowMoves.{is_arrival, is_call_word, shadow_step, shadow_plan, fetch_shadow}
-use Rattle.run_model.specs.OwnLaws.{Accepted}
+use Rattle.run_laws.specs.OwnLaws.{Accepted}
 use Rattle.run_model.specs.Marks.{no_marks}
 use Rattle.side_model.specs.Hart.{Regs, get}
 use Rattle.side_model.specs.Sees.{shade_of, HasRegs}
-use Rattle.side_model.specs.Completes.{WordCompletes}
+use Rattle.run_laws.specs.Completes.{WordCompletes}
 use Rattle.own_laws.proofs.Reached.{false_true}
 use Rattle.shadow_laws.proofs.Sound.{Standing}
 use Rattle.mark_laws.specs.Agreement.{Agrees, SeesAlike, planned}
@@ -41,7 +41,8 @@ use Rattle.shadow_walk.specs.Shows.{ShowsIn, ShowsShadow, AtKey, AtCall, MovesBy
 use Rattle.shadow_walk.specs.Walks.{words_on, HasState, StandsAt, ParksBy, Walks, arrives, parks, calls}
 use Rattle.shadow_walk.specs.declared.walking.Walked.TheVariants as walked
 use Rattle.shadow_walk.proofs.Told.{Tells, tells}
-use Rattle.shadow_walk.proofs.OnTheWay.{of-sized, use-none, Walking, walking-sees, Started, starts}
+use Rattle.shadow_laws.proofs.ShadowNumbers.{of-sized}
+use Rattle.shadow_walk.proofs.OnTheWay.{use-none, Walking, walking-sees, Started, starts}
 use Rattle.shadow_walk.proofs.WalkEnds.{OnInstruction, on-instruction}
 use Rattle.shadow_walk.proofs.WalkRows as asks
 use Rattle.shadow_walk.proofs.WalkRows.{within-some, is_other, Asks, AsksIn, within-asks, within-completes}

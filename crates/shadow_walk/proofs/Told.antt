@@ -14,8 +14,8 @@ use Rattle.rv_model.specs.Effect.{Effect, Next, Stored, Trapped, Called, Gated, 
 use Rattle.rv_model.specs.Space.{Space, sees, word_at, word_effect, effect_at}
 use Rattle.run_model.specs.Run.{World, Run}
 use Rattle.run_model.specs.ShadowMoves.{fetch_shadow, is_call_word}
-use Rattle.run_model.specs.OwnLaws.{Accepted}
-use Rattle.side_model.specs.Completes.{Completes, WordCompletes}
+use Rattle.run_laws.specs.OwnLaws.{Accepted}
+use Rattle.run_laws.specs.Completes.{Completes, WordCompletes}
 use Rattle.machine_laws.specs.OneMachine.{space_of_run, shadow_effect, IsOfView, instr_in}
 use Rattle.machine_laws.proofs.Fetches.{fetches_same}
 use Rattle.machine_laws.proofs.Gates.{effects_of_view}

@@ -19,11 +19,11 @@ use Rattle.rv_model.specs.Arithmetic.{is_taken, load_width, store_width}
 use Rattle.rv_model.specs.Effect.{Effect, Next, Stored, Trapped, Called, Gated, effect, after, even, jump_if, jumps_to, branch_if, load_if, load_effect, store_if, store_effect}
 use Rattle.program_model.specs.PlainRun.{State, Image, all_taken, next_state, next_unless, at_word, after_effect, completed}
 use Rattle.run_model.specs.Run.{World}
-use Rattle.run_model.specs.OwnLaws.{Accepted}
+use Rattle.run_laws.specs.OwnLaws.{Accepted}
 use Rattle.run_model.specs.Restarts.{instr_at}
 use Rattle.run_model.specs.Marks.{no_marks}
 use Rattle.side_model.specs.Hart.{Regs, get}
-use Rattle.side_model.specs.Tables.{Tabs}
+use Rattle.code_model.specs.Tables.{Tabs}
 use Rattle.rows_access.specs.Accesses.{AccessFaults, may_access, load_size, store_size}
 use Rattle.rows_access.specs.StoreRows.{StoreParks, faults, full_up}
 use Rattle.rows_access.proofs.Traps.{load_traps, store_traps}

@@ -19,15 +19,16 @@ use Rattle.code_model.specs.Places.{block_at}
 use Rattle.own_laws.proofs.Reached.{false_true}
 use Rattle.mark_laws.proofs.OneInstruction.{true_false}
 use Rattle.run_model.specs.Run.{World, Run, rewritten_words}
-use Rattle.run_model.specs.OwnLaws.{Accepted}
+use Rattle.run_laws.specs.OwnLaws.{Accepted}
 use Rattle.run_model.specs.ShadowMoves.{fetch_shadow}
 use Rattle.side_model.specs.Hart.{Regs, get, put, Priv}
-use Rattle.side_model.specs.Tables.{Tabs, HasTabs}
+use Rattle.code_model.specs.Tables.{Tabs}
+use Rattle.side_model.specs.Tables.{HasTabs}
 use Rattle.side_model.specs.Places.{Place, InBlock, Helper, Restarting, helper_words, Loading, Storing, Width, code, HasBlock}
 use Rattle.side_model.specs.Words.{exec_some}
 use Rattle.side_model.specs.Rows.{Led}
 use Rattle.side_model.specs.Sees.{Shade, shade_of, HasRegs}
-use Rattle.side_model.specs.Completes.{WordCompletes}
+use Rattle.run_laws.specs.Completes.{WordCompletes}
 use Rattle.side_model.specs.JumpRows as jump
 use Rattle.side_model.specs.JumpRows.{JumpRow, JumpFits, lands}
 use Rattle.side_model.proofs.Fetching.{code-fetches}

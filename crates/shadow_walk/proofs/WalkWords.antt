@@ -21,11 +21,11 @@ use Rattle.code_model.specs.Places.{block_at}
 use Rattle.code_model.specs.Regions.{shadowed}
 use Rattle.run_model.specs.Run.{World, Run, Answer, rewritten_words}
 use Rattle.run_model.specs.ShadowMoves.{is_arrival, shadow_step, fetch_shadow}
-use Rattle.run_model.specs.OwnLaws.{Accepted}
+use Rattle.run_laws.specs.OwnLaws.{Accepted}
 use Rattle.run_model.specs.Restarts.{instr_at}
 use Rattle.run_model.specs.Marks.{no_marks, mark_bytes, marks_after}
 use Rattle.side_model.specs.Hart.{Regs, get}
-use Rattle.side_model.specs.Tables.{Tabs, TableOk}
+use Rattle.code_model.specs.Tables.{Tabs, TableOk}
 use Rattle.side_model.specs.Places.{address, HasBlock}
 use Rattle.side_model.specs.Words.{Point}
 use Rattle.side_model.specs.Sees.{shade_of, Sees, HasRegs}
@@ -35,7 +35,7 @@ use Rattle.rows_access.specs.LoadRows.{LoadArrives}
 use Rattle.rows_access.specs.StoreRows.{StoreArrives}
 use Rattle.rows_access.proofs.AccessPlaces.{load-width, store-width}
 use Rattle.rows_flow.specs.Following.{GoesOn, FlowArrives}
-use Rattle.shadow_laws.proofs.ShadowNumbers.{Sized, stock_of, in-keeps}
+use Rattle.shadow_laws.proofs.ShadowNumbers.{Sized, stock_of, in-keeps, of-sized}
 use Rattle.shadow_laws.proofs.ShadowRuns.{block-arrives}
 use Rattle.shadow_laws.proofs.TextBlocks.{text}
 use Rattle.mark_laws.specs.Agreement.{Agrees, IsAt, SeesAlike, may_access, FlowLeads, StoreLeads}
@@ -49,7 +49,7 @@ use Rattle.hint_laws.proofs.WordFacts.{WordLeaves, word-leaves, word-hints_stay}
 use Rattle.hint_laws.proofs.Spots.{inner-arrival, within-whole}
 use Rattle.hint_laws.proofs.Going.{program-left, alike-left}
 use Rattle.shadow_walk.specs.Walks.{StandsAt, ParksBy}
-use Rattle.shadow_walk.proofs.OnTheWay.{of-sized, marks-none, store-none, use-none, Walking, walking-sees}
+use Rattle.shadow_walk.proofs.OnTheWay.{marks-none, store-none, use-none, Walking, walking-sees}
 use Rattle.shadow_walk.proofs.WalkEnds.{OnInstruction, on-instruction, parks-by}
 
 -- what a word has led to

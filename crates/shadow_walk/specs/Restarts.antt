@@ -14,14 +14,16 @@ use Rattle.code_model.specs.Places.{RESTART, block_at}
 use Rattle.code_model.specs.Regions.{entry_of, slots_in_use}
 use Rattle.run_model.specs.Run.{World, Run, Answer}
 use Rattle.run_model.specs.ShadowMoves.{fetch_shadow}
-use Rattle.run_model.specs.OwnLaws.{Accepted}
+use Rattle.run_laws.specs.OwnLaws.{Accepted}
 use Rattle.run_model.specs.Restarts.{instr_at}
 use Rattle.side_model.specs.Places.{HasBlock}
-use Rattle.side_model.specs.Tables.{Tabs, HasTabs, TableOk, all_regions}
+use Rattle.code_model.specs.Tables.{Tabs, TableOk, all_regions}
+use Rattle.side_model.specs.Tables.{HasTabs}
 use Rattle.rows_log.specs.CallRows.{IsSite}
 use Rattle.hart_step.specs.Core.{Core}
 use Rattle.shadow_walk.specs.Shows.{ShowsIn, ShowsShadow}
-use Rattle.shadow_walk.specs.Walks.{IsSized, words_on}
+use Rattle.run_laws.specs.Numbers.{IsSized}
+use Rattle.shadow_walk.specs.Walks.{words_on}
 use Rattle.shadow_walk.specs.declared.walking.Walked.{Walked}
 use Rattle.shadow_walk.specs.declared.walking.Walked.TheVariants as walked
 

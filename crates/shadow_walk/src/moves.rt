@@ -2,7 +2,7 @@
 
 ghost use Rattle.std.specs.Prelude.{◌≡◌, ◌≢◌, ◌+◌, ◌≤◌};
 ghost use Rattle.run_model.specs.Run.{World, Run};
-ghost use Rattle.run_model.specs.OwnLaws.{Accepted};
+ghost use Rattle.run_laws.specs.OwnLaws.{Accepted};
 ghost use Rattle.hart_mem.specs.Held.{lacks_frame, space_of, spare_of};
 ghost use Rattle.hart_step.specs.Core.{core_of};
 ghost use Rattle.hart_step.specs.Step.{outcome, stepped, effect_here};

@@ -28,7 +28,8 @@ use Rattle.run_model.specs.Run.{World, Run, ShadowHart, Answer, Usual, Took, Fai
 use Rattle.run_model.specs.ShadowMoves.{shadow_after, shadow_at, shadow_stores, shadow_plan, assumed, look_assumed, fill, fill_if, hint_given}
 use Rattle.rv_model.proofs.Results.{word_of_int-small}
 use Rattle.side_model.specs.Hart.{Regs, get, put, Priv, get_private, put_private, is_place}
-use Rattle.side_model.specs.Tables.{Tabs, HasTabs, TableOk, all_regions, with_value}
+use Rattle.code_model.specs.Tables.{Tabs, TableOk, all_regions}
+use Rattle.side_model.specs.Tables.{HasTabs, with_value}
 use Rattle.side_model.specs.Places.{Place, InBlock, InHelper, Away, address, next, is_inner, IsBase}
 use Rattle.side_model.specs.Words.{Point, Out, Goes, Loads, Stores, Keys, Calls, Parks, Fails, onward, wrote, jumped, branched, private_load, private_store, exec}
 use Rattle.side_model.specs.Rows.{Led, on, leaps, arrives, takes_entry, takes_count, takes_listed, takes_link, takes_program, takes_copy, puts_entry, puts_count, puts_listed, puts_link, puts_copy, keys, calls, parks}

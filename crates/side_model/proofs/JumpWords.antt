@@ -10,7 +10,7 @@ use Rattle.rv_model.specs.Arithmetic.{minus}
 use Rattle.rv_model.specs.Effect.{even}
 use Rattle.code_model.specs.Places.{block_at}
 use Rattle.side_model.specs.Hart.{Regs, Priv}
-use Rattle.side_model.specs.Tables.{Tabs, TableOk}
+use Rattle.code_model.specs.Tables.{Tabs, TableOk}
 use Rattle.side_model.specs.Places.{Place, InBlock, InHelper, Away, Faulting, code, HasBlock}
 use Rattle.side_model.specs.Words.{Goes, exec_some}
 use Rattle.side_model.specs.Rows.{Led, on, leaps, arrives, parks}

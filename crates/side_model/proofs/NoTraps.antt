@@ -21,12 +21,12 @@ use Rattle.code_model.specs.Regions.{entry_address, listed_address}
 use Rattle.run_model.specs.Run.{World, Run, rewritten_words}
 use Rattle.run_model.specs.ShadowMoves.{fetch_shadow}
 use Rattle.side_model.specs.Hart.{Regs, get, Priv, get_private, put_private, is_place}
-use Rattle.side_model.specs.Tables.{Tabs}
+use Rattle.code_model.specs.Tables.{Tabs}
 use Rattle.side_model.specs.Places.{Place, code, address, IsBase}
 use Rattle.side_model.specs.Words.{Point, Out, Goes, Loads, Stores, Fails, onward, jumped, branched, private_load, private_store, exec, exec_some}
 use Rattle.side_model.specs.Rows.{Led, takes_entry, takes_count, takes_listed, takes_link, takes_program, takes_copy, puts_entry, puts_count, puts_listed, puts_link, puts_copy}
 use Rattle.side_model.specs.Sees.{shade_of, Sees}
-use Rattle.side_model.specs.Completes.{Completes, goes_on, stores, asks_key, asks_call, asks_park, WordCompletes}
+use Rattle.run_laws.specs.Completes.{Completes, goes_on, stores, asks_key, asks_call, asks_park, WordCompletes}
 use Rattle.side_model.proofs.Private.{get_private-place}
 use Rattle.side_model.proofs.Fetching.{CodeAt, code-fetches}
 use Rattle.side_model.proofs.Tabling.{all_regions-most}

@@ -12,7 +12,8 @@ use Rattle.program_model.specs.Calls.{Read, key_of}
 use Rattle.run_model.specs.Run.{World, Run, Answer, rewritten_words}
 use Rattle.run_model.specs.ShadowMoves.{shadow_step, shadow_in, shadow_after, shadow_at_word, shadow_plan, arrived_if, word_counted, is_running, is_arrival, fetch_shadow, fill, hint_given}
 use Rattle.side_model.specs.Hart.{Regs, Priv}
-use Rattle.side_model.specs.Tables.{Tabs, HasTabs, TableOk}
+use Rattle.code_model.specs.Tables.{Tabs, TableOk}
+use Rattle.side_model.specs.Tables.{HasTabs}
 use Rattle.side_model.specs.Places.{Place, code, address}
 use Rattle.side_model.specs.Words.{Point, exec_some}
 use Rattle.side_model.specs.Rows.{Led}

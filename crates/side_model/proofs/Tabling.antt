@@ -1,5 +1,5 @@
 -- What a store to the shared memory does to the table and the list.
-use Rattle.std.proofs.Common.{◌≡◌, ℕ, ◌+◌, ◌*◌, ◌/◌, ◌^◌, ◌<◌, ◌≤◌, ◌⊎◌, inl, inr, Bool, true, false, ◌==◌, cond, refl, ◌∙◌, ap, subst, arith}
+use Rattle.std.proofs.Common.{◌≡◌, ℕ, ◌+◌, ◌-◌, ◌*◌, ◌/◌, ◌^◌, ◌<◌, ◌≤◌, ◌⊎◌, inl, inr, Bool, true, false, ◌==◌, cond, refl, ◌∙◌, ap, subst, arith}
 use Rattle.std.proofs.lemmas.Bool.Decides.{nat_tests}
 use Rattle.spec_base.specs.Word.{byte_of}
 use Rattle.spec_base.specs.Layout.{range_end, table_start, list_start, copies_start}
@@ -8,8 +8,9 @@ use Rattle.spec_base.specs.declared.layout.Version.TheVariants.{One, Two}
 use Rattle.spec_base.specs.declared.layout.Layout.{Layout}
 use Rattle.rv_model.specs.Memory.{Memory, patched, stored, loaded}
 use Rattle.rv_model.proofs.Loads.{loaded-below_patch, loaded-above_patch, loaded-in_patch, loaded-stored}
-use Rattle.code_model.specs.Regions.{entry_address, listed_address}
-use Rattle.side_model.specs.Tables.{Tabs, HasTabs, all_regions, with_value}
+use Rattle.code_model.specs.Regions.{entry_address, entry_of, listed_address}
+use Rattle.code_model.specs.Tables.{Tabs, tabs_of, all_regions, TableOk, AreConsistent}
+use Rattle.side_model.specs.Tables.{HasTabs, with_value}
 
 -- the table ends where the list starts, or before
 regions-most : (v : Version) → range_end v / 256 ≤ 0x40_0000
@@ -89,10 +90,21 @@ module _ (l : Layout) (few : l.regions ≤ 65536) (m : Memory) (t : Tabs) (h : H
         listed = λ j k. cells m (list_start + 8) i j v small ∙ ap (λ (z : ℕ). cond (j == i) v z) (h.listed j k);
       }
 
--- the table and the list of a memory
-abbrev pub tabs_of : Memory → Tabs
-tabs_of m = record { entry = λ x. loaded m (entry_address x) 4; count = loaded m list_start 8; listed = λ i. loaded m (listed_address i) 4 }
-
--- they are its own
+-- a shared memory has its own table and list
 pub HasTabs-of : (l : Layout) (m : Memory) → HasTabs l m (tabs_of m)
 HasTabs-of l m = record { entry = λ x k. refl; count = refl; listed = λ i k. refl }
+
+-- they are consistent where a row's are
+pub are-consistent : {l : Layout} {m : Memory} {t : Tabs} → HasTabs l m t → TableOk l t → AreConsistent l m
+are-consistent {l} {m} {t} has ok =
+    record {
+      count = omega (arith, has.count, ok.count);
+      listed = λ slot low.
+          let of = ok.listed slot (omega (arith, has.count)) in
+          (of.0, of.1, has.listed slot (omega (arith, has.count, ok.count)) ∙ of.2);
+      entry = λ region low some.
+          let e : entry_of m region ≡ t.entry region = has.entry region low in
+          let of = ok.entry region low (omega (arith, e)) in
+          let few : t.entry region - 1 < l.regions = omega (arith, of.0, ok.count, e) in
+          (omega (arith, of.0, e, has.count), ap (λ n. loaded m (listed_address (n - 1)) 4) e ∙ has.listed (t.entry region - 1) few ∙ of.1);
+    }

@@ -14,7 +14,7 @@ use Rattle.rv_model.specs.Arithmetic.{load_width, extended}
 use Rattle.rv_model.specs.Effect.{Stored, load_effect, load_if, store_effect, store_if, steps_on}
 use Rattle.rv_model.specs.Space.{program_byte, shadow_sees}
 use Rattle.code_model.specs.Regions.{entry_address, listed_address}
-use Rattle.side_model.specs.Tables.{all_regions}
+use Rattle.code_model.specs.Tables.{all_regions}
 
 -- ---- tests over a stretch
 

@@ -14,7 +14,7 @@ use Rattle.code_model.specs.Assembly.{hi, ld, X31}
 use Rattle.code_model.specs.Blocks.{is_target}
 use Rattle.code_model.specs.Places.{block_at}
 use Rattle.side_model.specs.Hart.{Regs, Priv}
-use Rattle.side_model.specs.Tables.{Tabs, TableOk}
+use Rattle.code_model.specs.Tables.{Tabs, TableOk}
 use Rattle.side_model.specs.Places.{Place, InBlock, InHelper, Jumping, Faulting, code}
 use Rattle.side_model.specs.Words.{exec_some}
 use Rattle.side_model.specs.Rows.{Led}

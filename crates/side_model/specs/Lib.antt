@@ -5,4 +5,3 @@ pub mod Words
 pub mod Rows
 pub mod Sees
 pub mod JumpRows
-pub mod Completes

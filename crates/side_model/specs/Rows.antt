@@ -38,7 +38,8 @@ use Rattle.rv_model.specs.Arithmetic.{load_width, store_width, extended}
 use Rattle.code_model.specs.Places.{block_at}
 use Rattle.code_model.specs.Regions.{entry_address, listed_address}
 use Rattle.side_model.specs.Hart.{Regs, Priv}
-use Rattle.side_model.specs.Tables.{Tabs, TableOk, all_regions, with_value}
+use Rattle.code_model.specs.Tables.{Tabs, TableOk, all_regions}
+use Rattle.side_model.specs.Tables.{with_value}
 use Rattle.side_model.specs.Places.{Place, address, is_inner, HasBlock}
 use Rattle.side_model.specs.Words.{Point, Out, Goes, Loads, Stores, Keys, Calls, Parks, wrote}
 

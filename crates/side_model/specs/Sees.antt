@@ -9,7 +9,8 @@ use Rattle.rv_model.specs.Registers.{Registers, reg}
 use Rattle.code_model.specs.Places.{block_at}
 use Rattle.run_model.specs.Run.{Run, ShadowHart}
 use Rattle.side_model.specs.Hart.{Regs, get, Priv}
-use Rattle.side_model.specs.Tables.{Tabs, HasTabs, TableOk}
+use Rattle.code_model.specs.Tables.{Tabs, TableOk}
+use Rattle.side_model.specs.Tables.{HasTabs}
 use Rattle.side_model.specs.Places.{Place, address, is_inner, HasBlock}
 use Rattle.side_model.specs.Words.{Point}
 

@@ -12,7 +12,7 @@ use Rattle.rv_model.specs.Memory.{Memory}
 use Rattle.rv_model.specs.Arithmetic.{imm_result, imm_w_result, reg_result, reg_w_result, is_taken}
 use Rattle.rv_model.specs.Effect.{even}
 use Rattle.side_model.specs.Hart.{Regs, get, put, Priv, get_private, put_private, is_place}
-use Rattle.side_model.specs.Tables.{Tabs}
+use Rattle.code_model.specs.Tables.{Tabs}
 use Rattle.side_model.specs.Places.{Place, Away, address, next}
 
 -- where the shadow is: its place, registers and private places, and the table and the list

@@ -7,7 +7,7 @@ use Rattle.rv_model.specs.Memory.{Memory, zeros, all_from}
 use Rattle.rv_model.specs.Rights.{is_data}
 use Rattle.rv_model.specs.Space.{Space}
 use Rattle.hart_mem.specs.Held.{space_of}
-use Rattle.cow_regions.specs.Tables.{AreConsistent}
+use Rattle.code_model.specs.Tables.{AreConsistent}
 use Rattle.cow_regions.proofs.Copies.{consistent-zeros}
 use Rattle.cow_regions.proofs.RangeBytes.{data-past}
 use Rattle.cow_regions.proofs.tests.made.Goals as goal
