@@ -2,3 +2,4 @@ pub mod Line
 pub mod Report
 pub mod Grammar
 pub mod RoundTrip
+pub mod Ranges
