@@ -3,3 +3,4 @@ pub mod Report
 pub mod Grammar
 pub mod RoundTrip
 pub mod Ranges
+pub mod Lines
