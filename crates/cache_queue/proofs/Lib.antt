@@ -6,3 +6,4 @@ pub mod Kept
 pub mod Order
 pub mod Rounds
 pub mod Truth
+pub mod ReadBlocks

@@ -6,8 +6,10 @@ mod blocks;
 mod cache;
 mod finish;
 mod queue;
+mod read_blocks;
 #[cfg(test)]
 mod tests;
 
 pub use cache::{Cache, Need};
 pub use finish::Finished;
+pub use read_blocks::block_numbers;

@@ -2,16 +2,19 @@
 use Rattle.std.proofs.Common.{◌≡◌, ◌⊎◌, inl, inr, ℕ, ◌≤◌, Bool, true, false, List, [], arith, refl, subst, Some, None, Option, IfSome, Err}
 use Rattle.std.specs.Prelude.{MatchOption}
 use Rattle.world_io.specs.Outside.{StoreState, SinkState, Rose}
-use Rattle.world_io.specs.Logs.{StoreLog}
+use Rattle.world_io.specs.Logs.{StoreLog, SinkLog, Piece}
 use Rattle.world_io.specs.Texts.{PutsText}
+use Rattle.world_io.proofs.Sinks.{log-rose, log-later, rose-PutsText}
 use Rattle.world_io.proofs.Stores.{failed-Rose}
+use Rattle.program_model.specs.PlainRun.{State, Image as Program}
 use Rattle.whole_file.specs.Reading.{ReadsWhole}
 use Rattle.whole_file.specs.declared.reading.ReadFault.TheVariants as read
 use Rattle.command_words.specs.CommandLine.{command_of}
 use Rattle.command_words.specs.declared.command.Command.{Command}
 use Rattle.command_words.specs.declared.command.Command.TheVariants.{Plain, Rewrite, Run, Trace, Demo, Replay, Plan}
 use Rattle.command_words.specs.declared.request.Request.{Request}
-use Rattle.plain_runner.specs.Runs.{Outside, CallsStore, HasSinkCause}
+use Rattle.plain_runner.specs.Runs.{Outside, CallsStore, FailedPuts}
+use Rattle.plain_runner.specs.declared.ending.Ending.TheVariants as ending
 use Rattle.spechint_commands.specs.Texts.{text_of}
 use Rattle.spechint_commands.specs.Top.{IsOutcome, CommandTo, Accepted, Tells, TellsAlone, image_name, asked_program}
 use Rattle.spechint_commands.specs.declared.status.Status.{Status}
@@ -75,8 +78,7 @@ store_fault-Rose words status old new h e = store_fault_by (command_of words) ol
 
 -- the puts of a text never lower a count
 later_text : (a b : SinkState) (text : List ℕ) (whole : Bool) → PutsText a text whole b → a.faults ≤ b.faults
-later_text a b text true h = h.1.later
-later_text a b text false h = h.1.later
+later_text a b text whole h = log-later a b h.pieces h.fault h.log
 
 later_Rose : (a b c : ℕ) → Rose a b → b ≤ c → Rose a c
 later_Rose a b c h l = omega arith
@@ -85,13 +87,24 @@ later_Rose a b c h l = omega arith
 abbrev pub SinkRose : Outside → Outside → Type 0
 SinkRose old new = Rose old.out.faults new.out.faults ⊎ Rose old.err.faults new.err.faults
 
+-- the count of the sink whose put failed rose
+failed-SinkRose : (p : Program) (s : State) (old new : Outside) (outs errs : List Piece) (out err : Option (List ℕ)) → FailedPuts p s ending.SinkFault out err
+    → SinkLog old.out outs out new.out → SinkLog old.err errs err new.err → SinkRose old new
+failed-SinkRose p s old new outs errs (Some bytes) None failed one two = inl (log-rose old.out new.out outs bytes one)
+failed-SinkRose p s old new outs errs None (Some bytes) failed one two = inr (log-rose old.err new.err errs bytes two)
+failed-SinkRose p s old new outs errs None None failed one two = absurd failed
+failed-SinkRose p s old new outs errs (Some bytes) (Some others) failed one two = absurd failed
+
 -- a run that a fault of a sink has ended
 pub put_failed : (r : Request) (old new : Outside) → Accepted r SinkFault old new → SinkRose old new
-put_failed r old new a = subst (λ e. HasSinkCause old.out old.err e new.out new.err) a.ran.gives a.ran.runs.cause
+put_failed r old new a =
+    let run = a.ran.runs in
+    let failed = subst (λ e. FailedPuts (asked_program r a.bytes a.image) run.state e run.out_fault run.err_fault) a.ran.gives run.failed in
+    failed-SinkRose (asked_program r a.bytes a.image) run.state old new run.outs run.errs run.out_fault run.err_fault failed run.out_log run.err_log
 
 sink_fault_in : (c : Command) (r : Request) (old new : Outside) → CommandTo c r SinkFault old new → SinkRose old new
 sink_fault_in Plain r old new a = put_failed r old new a
-sink_fault_in Rewrite r old new h = inl h.2.2.puts.3
+sink_fault_in Rewrite r old new h = inl (rose-PutsText old.out new.out _ h.2.2.puts)
 sink_fault_in Run r old new h = absurd (let e : SinkFault ≡ NotBuilt = h.0 in cc)
 sink_fault_in Trace r old new h = absurd (let e : SinkFault ≡ NotBuilt = h.0 in cc)
 sink_fault_in Demo r old new h = absurd (let e : SinkFault ≡ NotBuilt = h.0 in cc)

@@ -5,7 +5,9 @@ use Rattle.spec_base.specs.Files.{Files}
 use Rattle.spec_base.specs.Layout.{file_limit}
 use Rattle.spec_base.specs.declared.machine.Trap.{Trap}
 use Rattle.world_io.specs.Outside.{StoreState, SinkState, Rose, Steady}
+use Rattle.world_io.specs.Logs.{SinkLog}
 use Rattle.world_io.specs.Texts.{PutsText}
+use Rattle.world_io.proofs.Sinks.{log-later, rose-PutsText}
 use Rattle.whole_file.specs.Reading.{ReadsWhole, SaysOf}
 use Rattle.whole_file.specs.declared.reading.ReadFault.{ReadFault}
 use Rattle.whole_file.specs.declared.reading.ReadFault.TheVariants as read
@@ -18,7 +20,7 @@ use Rattle.command_words.specs.CommandLine.{command_of}
 use Rattle.command_words.specs.declared.command.Command.{Command}
 use Rattle.command_words.specs.declared.command.Command.TheVariants.{Plain, Rewrite, Run, Trace, Demo, Replay, Plan}
 use Rattle.command_words.specs.declared.request.Request.{Request}
-use Rattle.plain_runner.specs.Runs.{Outside, EndsBy, Agrees}
+use Rattle.plain_runner.specs.Runs.{Outside, EndsBy, Agrees, FailedPuts}
 use Rattle.plain_runner.specs.declared.ending.Ending.TheVariants as ending
 use Rattle.spechint_commands.specs.Texts.{text_of}
 use Rattle.spechint_commands.specs.Top.{Silent, Stopped, EndingStatus, Runs, Accepted, PlainTo, Rewrites, RewriteTo, CommandTo, IsOutcome, image_name}
@@ -50,10 +52,23 @@ run-IsPlainRun p files turns status old new e end h =
       ends = λ t a. ends_as status end h.gives t;
       out = r.out_is;
       err = r.err_is;
-      out_log = r.out_log;
-      err_log = r.err_log;
+      out_log = subst (λ o. SinkLog old.out r.outs o new.out) (no_faults status end h.gives).0 r.out_log;
+      err_log = subst (λ o. SinkLog old.err r.errs o new.err) (no_faults status end h.gives).1 r.err_log;
     }
   where
+    no_faults : (s : Status) → IsEnd s → EndingStatus h.end s → (h.runs.out_fault ≡ None) × (h.runs.err_fault ≡ None)
+    no_faults (Exited code) is gives = subst (λ e. FailedPuts p h.runs.state e h.runs.out_fault h.runs.err_fault) gives h.runs.failed
+    no_faults (Trapped cause pc) is gives = subst (λ e. FailedPuts p h.runs.state e h.runs.out_fault h.runs.err_fault) gives h.runs.failed
+    no_faults (TurnsOver count) is gives = subst (λ e. FailedPuts p h.runs.state e h.runs.out_fault h.runs.err_fault) gives h.runs.failed
+    no_faults Done is gives = absurd is
+    no_faults Usage is gives = absurd is
+    no_faults NotBuilt is gives = absurd is
+    no_faults Absent is gives = absurd is
+    no_faults (Refused why) is gives = absurd is
+    no_faults StoreFault is gives = absurd is
+    no_faults SinkFault is gives = absurd is
+    no_faults NoMemory is gives = absurd is
+
     ends_as : (s : Status) → IsEnd s → EndingStatus h.end s → (t : Taken) → EndsAs p files t turns h.runs.n h.runs.state s
     ends_as (Exited code) is gives t = subst (λ d. EndsBy p turns h.runs.n h.runs.state d) gives h.runs.ends
     ends_as (Trapped cause pc) is gives t = (let by = subst (λ d. EndsBy p turns h.runs.n h.runs.state d) gives h.runs.ends in (by.0, by.1, by.2 files t))
@@ -158,7 +173,7 @@ by_rewrite r files (Refused why) old new e (inl (stopped, long)) s o = inr (refu
 by_rewrite r files (Refused why) old new e (inr (bytes, whole, (verdict, out), err)) s o =
     inr (judged_refused Rewrite r files why bytes old new e whole verdict (out, err))
 by_rewrite r files StoreFault old new e h s o = absurd (clash old.store.faults new.store.faults (failed_read old.store new.store (image_name r) h.0) s)
-by_rewrite r files SinkFault old new e h s o = absurd (clash old.out.faults new.out.faults h.2.2.puts.3 o)
+by_rewrite r files SinkFault old new e h s o = absurd (clash old.out.faults new.out.faults (rose-PutsText old.out new.out _ h.2.2.puts) o)
 by_rewrite r files NoMemory old new e h s o = inl refl
 by_rewrite r files (Exited c) old new e h s o = absurd h
 by_rewrite r files (Trapped t pc) old new e h s o = absurd h
@@ -184,20 +199,23 @@ by_command Plan r files status old new e h s o w = inr h
 silent_err : (old new : Outside) → Silent old new → old.err.faults ≤ new.err.faults
 silent_err old new h = (let same = ap (λ s. s.faults) h.1 in omega arith)
 
+run_later_err : (r : Request) (status : Status) (old new : Outside) → Accepted r status old new → old.err.faults ≤ new.err.faults
+run_later_err r status old new a = log-later old.err new.err a.ran.runs.errs a.ran.runs.err_fault a.ran.runs.err_log
+
 -- a run and a reading never lower the count of standard error
 later_err : (r : Request) (status : Status) (old new : Outside) → PlainTo r status old new → old.err.faults ≤ new.err.faults
-later_err r (Exited c) old new a = a.ran.runs.err_log.later
-later_err r (Trapped t pc) old new a = a.ran.runs.err_log.later
-later_err r (TurnsOver count) old new a = a.ran.runs.err_log.later
-later_err r SinkFault old new a = a.ran.runs.err_log.later
+later_err r (Exited c) old new a = run_later_err r _ old new a
+later_err r (Trapped t pc) old new a = run_later_err r _ old new a
+later_err r (TurnsOver count) old new a = run_later_err r _ old new a
+later_err r SinkFault old new a = run_later_err r _ old new a
 later_err r Absent old new h = silent_err old new h.1
 later_err r StoreFault old new (inl stopped) = silent_err old new stopped.1
-later_err r StoreFault old new (inr a) = a.ran.runs.err_log.later
+later_err r StoreFault old new (inr a) = run_later_err r _ old new a
 later_err r (Refused why) old new (inl (stopped, long)) = silent_err old new stopped.1
 later_err r (Refused why) old new (inr (bytes, whole, verdict, silent)) = silent_err old new silent
 later_err r NoMemory old new (inl (inl stopped)) = silent_err old new stopped.1
 later_err r NoMemory old new (inl (inr (bytes, image, whole, verdict, silent))) = silent_err old new silent
-later_err r NoMemory old new (inr a) = a.ran.runs.err_log.later
+later_err r NoMemory old new (inr a) = run_later_err r _ old new a
 later_err r Done old new h = absurd h
 later_err r Usage old new h = absurd h
 later_err r NotBuilt old new h = absurd h
@@ -230,8 +248,8 @@ later_in Plan r status old new h = silent_err old new h.1.1
 -- a text that was put while the count stood is whole
 whole_text : (a b c : SinkState) (text : List ℕ) (whole : Bool) → a.faults ≤ b.faults → PutsText b text whole c → Steady a.faults c.faults
     → PutsText b text true c × (b.faults ≤ c.faults)
-whole_text a b c text true l h s = (h, h.1.later)
-whole_text a b c text false l h s = absurd (let up : Rose b.faults c.faults = h.3 in omega arith)
+whole_text a b c text true l h s = (h, log-later b c h.pieces h.fault h.log)
+whole_text a b c text false l h s = absurd (let up : Rose b.faults c.faults = rose-PutsText b c text h in omega arith)
 
 -- what a command does, with its text
 with_text : (r : Request) (files : Files) (status : Status) (old new : Outside) (err : SinkState)

@@ -47,8 +47,8 @@ pub record IsPlainRun (p : Program) (files : Files) (turns : ℕ) (status : Stat
   pub ends : (t : Taken) → Agrees t outs errs → EndsAs p files t turns n state status
   pub out : state.out ≡ output_of outs
   pub err : state.err ≡ output_of errs
-  pub out_log : SinkLog old.out outs new.out
-  pub err_log : SinkLog old.err errs new.err
+  pub out_log : SinkLog old.out outs None new.out
+  pub err_log : SinkLog old.err errs None new.err
 
 -- ---- commands
 

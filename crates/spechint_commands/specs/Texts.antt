@@ -1,8 +1,7 @@
 -- The exit code and the text of each status (this project's own).
 use Rattle.std.specs.Prelude.{ℕ, false, List, [], ◌∷◌, ◌++◌, codes, decimal}
 use Rattle.std.specs.Fmt.{digits}
-use Rattle.elf_image.specs.declared.refusal.Refusal.{Refusal}
-use Rattle.elf_image.specs.declared.refusal.Refusal.TheVariants as refusal
+use Rattle.elf_image.specs.Refusals.{refusal_name, refusal_number}
 use Rattle.trace_text.specs.Line.{trap_name}
 use Rattle.spechint_commands.specs.declared.status.Status.{Status}
 use Rattle.spechint_commands.specs.declared.status.Status.TheVariants.{Done, Exited, Trapped, TurnsOver, Usage, NotBuilt, Absent, Refused, StoreFault, SinkFault, NoMemory}
@@ -21,27 +20,7 @@ code_of NoMemory = 125
 code_of (Trapped cause pc) = 126
 code_of NotBuilt = 127
 
--- number and name of a refusal
-abbrev pub refusal_text : Refusal → List ℕ
-refusal_text refusal.TooLong = codes "E1 TooLong"
-refusal_text refusal.Short = codes "E2 Short"
-refusal_text refusal.Magic = codes "E3 Magic"
-refusal_text refusal.Class = codes "E4 Class"
-refusal_text refusal.ByteOrder = codes "E5 ByteOrder"
-refusal_text refusal.Version = codes "E6 Version"
-refusal_text refusal.Kind = codes "E7 Kind"
-refusal_text refusal.Machine = codes "E8 Machine"
-refusal_text refusal.Flags = codes "E9 Flags"
-refusal_text refusal.HeaderTable = codes "E10 HeaderTable"
-refusal_text refusal.Dynamic = codes "E11 Dynamic"
-refusal_text refusal.Already = codes "E12 Already"
-refusal_text refusal.Segment = codes "E13 Segment"
-refusal_text refusal.NoText = codes "E14 NoText"
-refusal_text refusal.Sections = codes "E15 Sections"
-refusal_text refusal.Text = codes "E16 Text"
-refusal_text refusal.Entry = codes "E17 Entry"
-
--- ---- the text of a status, in five parts. The name is the word for the image
+-- ---- the text of a status, in seven parts. The name is the word for the image
 
 -- how it begins
 abbrev pub opening : Status → List ℕ
@@ -66,7 +45,7 @@ subject other name = []
 
 -- what stands between
 abbrev pub joint : Status → List ℕ
-joint (Refused why) = codes ": refused: "
+joint (Refused why) = codes ": refused: E"
 joint (Trapped cause pc) = codes " at 0x"
 joint other = []
 
@@ -75,17 +54,28 @@ abbrev pub pc_of : Status → ℕ
 pc_of (Trapped cause pc) = pc
 pc_of other = 0
 
--- how many instructions were completed where all turns are over, and else 0
-abbrev pub turns_of : Status → ℕ
-turns_of (TurnsOver count) = count
-turns_of other = 0
+-- how many instructions were completed where all turns are over, the number of a refusal, and else 0
+abbrev pub count_of : Status → ℕ
+count_of (TurnsOver count) = count
+count_of (Refused why) = refusal_number why
+count_of other = 0
 
--- a reason, an address in lower-case hexadecimal, or a count
+-- an address in lower-case hexadecimal, or a count
 abbrev pub detail : Status → List ℕ
-detail (Refused why) = refusal_text why
 detail (Trapped cause pc) = digits 16 false pc
 detail (TurnsOver count) = decimal count
+detail (Refused why) = decimal (refusal_number why)
 detail other = []
+
+-- what stands before a reason
+abbrev pub gap : Status → List ℕ
+gap (Refused why) = codes " "
+gap other = []
+
+-- a reason
+abbrev pub reason : Status → List ℕ
+reason (Refused why) = refusal_name why
+reason other = []
 
 -- how it ends
 abbrev pub closing : Status → List ℕ
@@ -97,4 +87,5 @@ closing other = 10 ∷ []
 
 -- the whole text
 abbrev pub text_of : Status → List ℕ → List ℕ
-text_of status name = opening status ++ (subject status name ++ (joint status ++ (detail status ++ closing status)))
+text_of status name =
+    opening status ++ (subject status name ++ (joint status ++ (detail status ++ (gap status ++ (reason status ++ closing status)))))

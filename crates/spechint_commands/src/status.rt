@@ -3,13 +3,13 @@
 ghost use Rattle.std.specs.Prelude.{◌≡◌, false, ◌++◌, ◌≤◌, ◌<◌, ◌^◌, length, drop, decimal};
 ghost use Rattle.world_io.specs.Texts.{PutsText};
 ghost use Rattle.std.specs.Fmt.{digits, digit_glyph};
-ghost use Rattle.trace_text.specs.Line.{trap_name};
-ghost use Rattle.spechint_commands.specs.Texts.{code_of, opening, subject, joint, refusal_text, closing, detail, pc_of, turns_of};
+ghost use Rattle.spechint_commands.specs.Texts.{code_of, opening, subject, joint, closing, detail, gap, reason, pc_of, count_of};
 ghost use Rattle.spechint_commands.specs.Top.{Tells};
 
 use elf_image::Refusal;
 use itoa::Buffer;
 use spec_base::Trap;
+use trace_text::trap_text;
 use world_io::{Sink, put_all};
 
 /// How a command ends.
@@ -82,7 +82,7 @@ impl Status {
     {
         match self {
             Status::Absent | Status::Refused(_) => name,
-            Status::Trapped(cause, _) => trap_name(*cause),
+            Status::Trapped(cause, _) => trap_text(*cause),
             _ => b"",
         }
     }
@@ -91,7 +91,7 @@ impl Status {
         ensures { result.now ≡ joint self.now }
     {
         match self {
-            Status::Refused(_) => b": refused: ",
+            Status::Refused(_) => b": refused: E",
             Status::Trapped(_, _) => b" at 0x",
             _ => b"",
         }
@@ -107,25 +107,44 @@ impl Status {
         }
     }
 
-    // How many instructions were completed where all turns are over, and else 0.
-    fn turns(&self) -> u64
-        ensures { result ≡ turns_of self.now }
+    // How many instructions were completed where all turns are over, the number of a refusal, and
+    // else 0.
+    fn count(&self) -> u64
+        ensures { result ≡ count_of self.now }
     {
         match self {
             Status::TurnsOver(count) => *count,
+            Status::Refused(why) => u64::from(why.number()),
             _ => 0,
         }
     }
 
-    fn detail<'a>(&self, pc: &'a [u8], turns: &'a [u8]) -> &'a [u8]
+    fn detail<'a>(&self, pc: &'a [u8], count: &'a [u8]) -> &'a [u8]
         requires pc { pc.now ≡ digits 16 false (pc_of self.now) }
-        requires turns { turns.now ≡ decimal (turns_of self.now) }
+        requires count { count.now ≡ decimal (count_of self.now) }
         ensures { result.now ≡ detail self.now }
     {
         match self {
-            Status::Refused(why) => refusal_text(*why),
             Status::Trapped(_, _) => pc,
-            Status::TurnsOver(_) => turns,
+            Status::TurnsOver(_) | Status::Refused(_) => count,
+            _ => b"",
+        }
+    }
+
+    fn gap(&self) -> &'static [u8]
+        ensures { result.now ≡ gap self.now }
+    {
+        match self {
+            Status::Refused(_) => b" ",
+            _ => b"",
+        }
+    }
+
+    fn reason(&self) -> &'static [u8]
+        ensures { result.now ≡ reason self.now }
+    {
+        match self {
+            Status::Refused(why) => why.name().as_bytes(),
             _ => b"",
         }
     }
@@ -138,44 +157,6 @@ impl Status {
             Status::TurnsOver(_) => b" instructions\n",
             _ => b"\n",
         }
-    }
-}
-
-fn trap_name(cause: Trap) -> &'static [u8]
-    ensures { result.now ≡ trap_name cause }
-{
-    match cause {
-        Trap::Illegal => b"Illegal",
-        Trap::FetchOut => b"FetchOut",
-        Trap::Misaligned => b"Misaligned",
-        Trap::LoadOut => b"LoadOut",
-        Trap::StoreOut => b"StoreOut",
-        Trap::Break => b"Break",
-    }
-}
-
-// The number and the name of a refusal.
-fn refusal_text(refusal: Refusal) -> &'static [u8]
-    ensures { result.now ≡ refusal_text refusal }
-{
-    match refusal {
-        Refusal::TooLong => b"E1 TooLong",
-        Refusal::Short => b"E2 Short",
-        Refusal::Magic => b"E3 Magic",
-        Refusal::Class => b"E4 Class",
-        Refusal::ByteOrder => b"E5 ByteOrder",
-        Refusal::Version => b"E6 Version",
-        Refusal::Kind => b"E7 Kind",
-        Refusal::Machine => b"E8 Machine",
-        Refusal::Flags => b"E9 Flags",
-        Refusal::HeaderTable => b"E10 HeaderTable",
-        Refusal::Dynamic => b"E11 Dynamic",
-        Refusal::Already => b"E12 Already",
-        Refusal::Segment => b"E13 Segment",
-        Refusal::NoText => b"E14 NoText",
-        Refusal::Sections => b"E15 Sections",
-        Refusal::Text => b"E16 Text",
-        Refusal::Entry => b"E17 Entry",
     }
 }
 
@@ -240,6 +221,28 @@ fn put_five<E: Sink>(
     put_three(err, third, fourth, fifth)
 }
 
+// Puts seven texts, one after the other, up to a put that fails.
+fn put_seven<E: Sink>(
+    err: &mut E,
+    first: &[u8],
+    second: &[u8],
+    third: &[u8],
+    fourth: &[u8],
+    fifth: &[u8],
+    sixth: &[u8],
+    seventh: &[u8],
+) -> bool
+    ensures { PutsText (E.state err.old) (first.now ++ (second.now ++ (third.now ++ (fourth.now ++ (fifth.now ++ (sixth.now ++ seventh.now)))))) result (E.state err.new) }
+{
+    if !put_all(err, first) {
+        return false;
+    }
+    if !put_all(err, second) {
+        return false;
+    }
+    put_five(err, third, fourth, fifth, sixth, seventh)
+}
+
 /// Puts the text of a status. A put that fails ends it. The name is the word for IMAGE.
 pub fn tell<E: Sink>(status: &Status, name: &[u8], err: &mut E)
     ensures { Tells status.now name.now (E.state err.old) (E.state err.new) }
@@ -247,13 +250,15 @@ pub fn tell<E: Sink>(status: &Status, name: &[u8], err: &mut E)
     let mut buffer = [0u8; 16];
     let at = write_hexadecimal(status.pc(), &mut buffer);
     let mut decimal = Buffer::new();
-    let turns = decimal.format(status.turns());
-    let _ = put_five(
+    let count = decimal.format(status.count());
+    let _ = put_seven(
         err,
         status.opening(),
         status.subject(name),
         status.joint(),
-        status.detail(&buffer[at..], turns.as_bytes()),
+        status.detail(&buffer[at..], count.as_bytes()),
+        status.gap(),
+        status.reason(),
         status.closing(),
     );
 }

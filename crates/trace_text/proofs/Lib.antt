@@ -6,3 +6,4 @@ pub mod Printed
 pub mod LinesRead
 pub mod OneForm
 pub mod ReadLines
+mod LineCuts

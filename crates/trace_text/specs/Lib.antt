@@ -2,3 +2,5 @@ pub mod Line
 pub mod Report
 pub mod Grammar
 pub mod RoundTrip
+pub mod Ranges
+pub mod Lines

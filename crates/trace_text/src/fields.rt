@@ -1,7 +1,8 @@
 //! What the fields behind a keyword say.
 
-ghost use Rattle.std.specs.Prelude.{◌≡◌};
+ghost use Rattle.std.specs.Prelude.{◌≡◌, IfSome};
 ghost use Rattle.trace_text.specs.Grammar.{words_of, call_in, text_in, read_in, block_in, exit_in, trapped_in, parked_in, fault_in, use_in, fields_in};
+ghost use Rattle.trace_text.specs.Ranges.{IsReadInRange, IsNoteInRange, IsInRange};
 
 use crate::keyword::{Keyword, park_named, trap_named};
 use crate::numbers::{address, answer, decimal, name_of, number, text_count};
@@ -11,7 +12,8 @@ use spec_base::{BlockSpot, Note, ReadSpot};
 
 #[tactic(auto, unfolding(crate::specs::Grammar::call_in))]
 fn call(fields: &[u8]) -> Option<Note>
-    ensures { result ≡ call_in (words_of fields.now) }
+    ensures value { result ≡ call_in (words_of fields.now) }
+    ensures range { IfSome result IsNoteInRange }
 {
     let (first, second, third, fourth, fifth) = five(fields)?;
     let number = decimal(first)?;
@@ -30,7 +32,8 @@ fn call(fields: &[u8]) -> Option<Note>
 
 #[tactic(auto, unfolding(crate::specs::Grammar::text_in))]
 fn text(fields: &[u8]) -> Option<Note>
-    ensures { result ≡ text_in (words_of fields.now) }
+    ensures value { result ≡ text_in (words_of fields.now) }
+    ensures range { IfSome result IsNoteInRange }
 {
     let (first, second) = two(fields)?;
     let to = number(first, 10, 2)?;
@@ -47,7 +50,8 @@ fn text(fields: &[u8]) -> Option<Note>
 
 #[tactic(auto, unfolding(crate::specs::Grammar::read_in))]
 fn read(fields: &[u8]) -> Option<ReadSpot>
-    ensures { result ≡ read_in (words_of fields.now) }
+    ensures value { result ≡ read_in (words_of fields.now) }
+    ensures range { IfSome result IsReadInRange }
 {
     let (first, second, third) = three(fields)?;
     let name = name_of(first)?;
@@ -72,7 +76,8 @@ fn block(fields: &[u8]) -> Option<BlockSpot>
 
 #[tactic(auto, unfolding(crate::specs::Grammar::exit_in))]
 fn exit(fields: &[u8]) -> Option<Note>
-    ensures { result ≡ exit_in (words_of fields.now) }
+    ensures value { result ≡ exit_in (words_of fields.now) }
+    ensures range { IfSome result IsNoteInRange }
 {
     let word = one(fields)?;
     let code = number(word, 10, 255)?;
@@ -81,7 +86,8 @@ fn exit(fields: &[u8]) -> Option<Note>
 
 #[tactic(auto, unfolding(crate::specs::Grammar::trapped_in))]
 fn trapped(fields: &[u8]) -> Option<Note>
-    ensures { result ≡ trapped_in (words_of fields.now) }
+    ensures value { result ≡ trapped_in (words_of fields.now) }
+    ensures range { IfSome result IsNoteInRange }
 {
     let (first, second) = two(fields)?;
     let trap = trap_named(first)?;
@@ -91,7 +97,8 @@ fn trapped(fields: &[u8]) -> Option<Note>
 
 #[tactic(auto, unfolding(crate::specs::Grammar::parked_in))]
 fn parked(fields: &[u8]) -> Option<Note>
-    ensures { result ≡ parked_in (words_of fields.now) }
+    ensures value { result ≡ parked_in (words_of fields.now) }
+    ensures range { IfSome result IsNoteInRange }
 {
     let word = one(fields)?;
     let cause = park_named(word)?;
@@ -100,7 +107,8 @@ fn parked(fields: &[u8]) -> Option<Note>
 
 #[tactic(auto, unfolding(crate::specs::Grammar::fault_in))]
 fn fault(fields: &[u8]) -> Option<Note>
-    ensures { result ≡ fault_in (words_of fields.now) }
+    ensures value { result ≡ fault_in (words_of fields.now) }
+    ensures range { IfSome result IsNoteInRange }
 {
     let word = one(fields)?;
     if word == b"store".as_slice() {
@@ -112,7 +120,8 @@ fn fault(fields: &[u8]) -> Option<Note>
 
 #[tactic(auto, unfolding(crate::specs::Grammar::use_in))]
 fn used(fields: &[u8]) -> Option<TraceBody>
-    ensures { result ≡ use_in (words_of fields.now) }
+    ensures value { result ≡ use_in (words_of fields.now) }
+    ensures range { IfSome result IsInRange }
 {
     let word = one(fields)?;
     let number = decimal(word)?;
@@ -122,7 +131,8 @@ fn used(fields: &[u8]) -> Option<TraceBody>
 /// What the fields behind a keyword say.
 #[tactic(auto, unfolding(crate::specs::Grammar::fields_in))]
 pub fn body_behind(keyword: Keyword, fields: &[u8]) -> Option<TraceBody>
-    ensures { result ≡ fields_in keyword (words_of fields.now) }
+    ensures value { result ≡ fields_in keyword (words_of fields.now) }
+    ensures range { IfSome result IsInRange }
 {
     let note = match keyword {
         Keyword::Call => call(fields)?,

@@ -4,6 +4,7 @@
 mod fields;
 mod keyword;
 mod laws;
+mod lines;
 mod numbers;
 mod reading;
 mod reporting;
@@ -15,6 +16,7 @@ pub use keyword::trap_text;
 pub use laws::{
     note_lines_are_read, only_printed_is_read, turns_lines_are_read, use_lines_are_read,
 };
+pub use lines::cut_line;
 pub use reading::parse_line;
 pub use reporting::{Counts, report};
 pub use trace_line::{TraceBody, TraceLine};

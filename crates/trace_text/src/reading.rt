@@ -1,7 +1,8 @@
 //! The reading of trace lines.
 
-ghost use Rattle.std.specs.Prelude.{◌≡◌};
+ghost use Rattle.std.specs.Prelude.{◌≡◌, IfSome};
 ghost use Rattle.trace_text.specs.Grammar.{words_of, body_in, line_in, line_at};
+ghost use Rattle.trace_text.specs.Ranges.{IsInRange};
 
 use crate::fields::body_behind;
 use crate::keyword::keyword_named;
@@ -12,7 +13,8 @@ use crate::words::cut;
 /// What the words behind the counts say.
 #[tactic(auto, unfolding(crate::specs::Grammar::body_in))]
 fn body(words: &[u8]) -> Option<TraceBody>
-    ensures { result ≡ body_in (words_of words.now) }
+    ensures value { result ≡ body_in (words_of words.now) }
+    ensures range { IfSome result IsInRange }
 {
     match cut(words) {
         Some((first, fields)) => body_behind(keyword_named(first)?, fields),
@@ -24,7 +26,8 @@ fn body(words: &[u8]) -> Option<TraceBody>
 /// What the words of a line say.
 #[tactic(auto, unfolding(crate::specs::Grammar::line_in))]
 fn line_of_words(words: &[u8]) -> Option<TraceLine>
-    ensures { result ≡ line_in (words_of words.now) }
+    ensures value { result ≡ line_in (words_of words.now) }
+    ensures range { IfSome result (λ line. IsInRange line.body) }
 {
     let (first, rest) = cut(words)?;
     let (second, rest) = cut(rest)?;
@@ -38,7 +41,8 @@ fn line_of_words(words: &[u8]) -> Option<TraceLine>
 /// are none. It takes no memory.
 #[tactic(auto, unfolding(crate::specs::Grammar::line_at))]
 pub fn parse_line(bytes: &[u8]) -> Option<TraceLine>
-    ensures { result ≡ line_at bytes.now }
+    ensures value { result ≡ line_at bytes.now }
+    ensures range { IfSome result (λ line. IsInRange line.body) }
 {
     let words = bytes.strip_suffix(b"\n")?;
     line_of_words(words)

@@ -22,7 +22,7 @@ struct Opened<F: Drop> {
 
 /// Files of the host. A look opens a file for reading, and the file that was opened last stays open for
 /// the fetches of its name. A file that isn't found, a directory and a name that isn't UTF-8 are
-/// absent; every other error, and a size from 2^56 on, is a failure.
+/// absent; every other error, and a size from 2^56 on, is a failure. So is a fetch of no file.
 #[derive(Drop)]
 pub struct HostStore<R: Files + Clone + Drop> {
     rt: R,
@@ -110,7 +110,7 @@ impl<R: Files + Clone + Drop> HostStore<R> {
         }
         match &mut self.last {
             Some(last) => read_from(&mut last.file, start, into),
-            None => Ok(0),
+            None => Err(io::Error::from(ErrorKind::NotFound)),
         }
     }
 }

@@ -1,9 +1,24 @@
-use Rattle.std.proofs.Common.{◌≡◌, Ok, refl, subst}
-use Rattle.elf_image.specs.Profile.{profile}
+use Rattle.std.proofs.Common.{◌≡◌, inl, inr, Result, Ok, Err, refl, subst}
+use Rattle.elf_image.specs.Profile.{profile, Answers}
+use Rattle.elf_image.specs.declared.image.Image.{Image}
+use Rattle.elf_image.specs.declared.image.ReadFault.TheVariants.{NoMemory}
+use Rattle.elf_image.specs.declared.refusal.Refusal.{Refusal}
 use Rattle.plain_runner.specs.Runs.{Outside}
 use Rattle.spechint_commands.specs.Top.{RunsImage}
 use Rattle.spechint_commands.proofs.Outcomes.{ran-PlainTo, unread-PlainTo}
 use Rattle.spechint_commands.proofs.plain.plain.Goals as goal
+
+-- memory is wanted for an accepted file alone
+accepted_image : (v : Result Image Refusal) → Answers v (Err NoMemory) → (image : Image) × (v ≡ Ok image)
+accepted_image (Ok image) h = (image, refl)
+accepted_image (Err why) h = absurd h
+
+pub returns-in-Err-NoMemory : goal.returns-in-Err-NoMemory
+returns-in-Err-NoMemory g c =
+    let answer = subst (λ e. Answers (profile c.deref.result.now c.args.request.now.options.layout) (Err e)) c.in-Err-NoMemory.field-0-is c.in-Err-NoMemory.ensures.answer in
+    let image = accepted_image (profile c.deref.result.now c.args.request.now.options.layout) answer in
+    let accepted = subst (λ items. profile items c.args.request.now.options.layout ≡ Ok image.0) c.deref.ensures.value image.1 in
+    inl (inr (c.in-Ok.bytes.items, image.0, c.in-Ok.ensures, accepted, (refl, refl)))
 
 pub returns : goal.returns
 returns g c =

@@ -1,0 +1,9 @@
+pub mod Counts
+pub mod Rows
+pub mod Least
+pub mod Bound
+pub mod Keeping
+pub mod Meeting
+pub mod Progress
+pub mod Noting
+pub mod Gathering

@@ -1,0 +1,9 @@
+pub mod Replays
+pub mod Lists
+pub mod Fits
+pub mod Fields
+pub mod Courses
+pub mod Totals
+pub mod Fed
+pub mod Bounds
+pub mod Traces
