@@ -1,82 +1,16 @@
 -- Logs of sinks, put by put.
-use Rattle.std.proofs.Common.{◌≡◌, ◌≢◌, ℕ, ◌+◌, ◌-◌, ◌≤◌, ◌<◌, Bool, true, false, List, [], ◌∷◌, ◌++◌, length, take, drop, map, arith, sym, ap, subst, refl, ◌∙◌, Some, None, Option, append_assoc}
+use Rattle.std.proofs.Common.{◌≡◌, ◌≢◌, ℕ, ◌+◌, ◌-◌, ◌≤◌, ◌<◌, Bool, true, false, List, [], ◌∷◌, ◌++◌, length, take, drop, map, arith, sym, ap, subst, refl, ◌∙◌, Some, None, Option, append_assoc, length-append}
 use Rattle.std.specs.Option.{option_map}
-use Rattle.std.proofs.lemmas.Grind.{flat_map-append}
-use Rattle.std.proofs.lemmas.List.{append-nil, map-append, length-drop, take_all, take-append-drop}
+use Rattle.std.proofs.lemmas.List.{append-nil, length-take, length-drop, take_all, take-append-le, take-append-drop, drop-append-le}
 use Rattle.world_io.specs.Outside.{SinkState, Room, Sure, Endless, Rose}
-use Rattle.world_io.specs.Puts.{PutSays, IsTakenWhole, Fits, room_left}
-use Rattle.world_io.specs.Logs.{Piece, SinkLog, bytes_of, sizes, AreTaken, AreWhole}
-use Rattle.world_io.specs.Texts.{PutsText, IsPutSurely}
+use Rattle.world_io.specs.Puts.{PutSays, Fits, room_left, took}
+use Rattle.world_io.specs.Buffers.{sure_room}
+use Rattle.world_io.specs.Logs.{Piece, IsOffered, SinkLog, bytes_of, sizes, AreTaken}
+use Rattle.world_io.specs.Texts.{IsFront, AreOf, PutsText, IsPutSurely}
+use Rattle.world_io.specs.declared.sink.Put.{Put}
 use Rattle.world_io.specs.declared.sink.Put.TheVariants.{Took, Failed}
 
--- one more piece
-abbrev pub piece : List ℕ → ℕ → Piece
-piece bytes k = record { offered = bytes; taken = k }
-
-grown : {A : Type 0} (o : Option (List A)) (xs ys zs : List A) → zs ≡ xs ++ ys
-    → option_map (λ all. all ++ ys) (option_map (λ all. all ++ xs) o) ≡ option_map (λ all. all ++ zs) o
-grown None xs ys zs e = refl
-grown (Some all) xs ys zs e = ap Some (append_assoc all xs ys ∙ ap (λ w. all ++ w) (sym e))
-
-AreTaken-more : (ps : List Piece) (p : Piece) → AreTaken ps → 0 < p.taken → p.taken ≤ length p.offered → AreTaken (ps ++ p ∷ [])
-AreTaken-more [] p h some few = (some, few, tt)
-AreTaken-more (q ∷ qs) p h some few = (h.0, h.1, AreTaken-more qs p h.2 some few)
-
-AreWhole-more : (ps : List Piece) (p : Piece) → AreWhole ps → p.taken ≡ length p.offered → AreWhole (ps ++ p ∷ [])
-AreWhole-more [] p h e = (e, tt)
-AreWhole-more (q ∷ qs) p h e = (h.0, AreWhole-more qs p h.1 e)
-
-pub bytes_of-more : (ps : List Piece) (p : Piece) → bytes_of (ps ++ p ∷ []) ≡ bytes_of ps ++ take p.taken p.offered
-bytes_of-more [] p = append-nil (take p.taken p.offered)
-bytes_of-more (q ∷ qs) p = ap (λ w. take q.taken q.offered ++ w) (bytes_of-more qs p)
-    ∙ sym (append_assoc (take q.taken q.offered) (bytes_of qs) (take p.taken p.offered))
-
-map-more : (ps : List Piece) (p : Piece) → map sizes (ps ++ p ∷ []) ≡ map sizes ps ++ sizes p ∷ []
-map-more [] p = refl
-map-more (q ∷ qs) p = ap (λ w. sizes q ∷ w) (map-more qs p)
-
--- a put that took some bytes goes on the log
-pub put-SinkLog : (a b c : SinkState) (ps : List Piece) (bytes : List ℕ) (k : ℕ) → SinkLog a ps b
-    → PutSays b bytes (Took k) c → (Fits b.room (length bytes) → IsTakenWhole b bytes (Took k) c)
-    → SinkLog a (ps ++ piece bytes k ∷ []) c
-put-SinkLog a b c ps bytes k log says whole = record {
-  taken = AreTaken-more ps (piece bytes k) log.taken says.0 says.1;
-  bytes = ap (λ s. s.bytes) says.2 ∙ ap (option_map (λ all. all ++ take k bytes)) log.bytes
-      ∙ grown a.bytes (bytes_of ps) (take k bytes) _ (bytes_of-more ps (piece bytes k));
-  puts = ap (λ s. s.puts) says.2 ∙ ap (option_map (λ all. all ++ (length bytes, k) ∷ [])) log.puts
-      ∙ grown a.puts (map sizes ps) ((length bytes, k) ∷ []) _ (map-more ps (piece bytes k));
-  endless = λ e.
-      (let before = log.endless e in
-      let now = whole (subst (λ r. Fits r (length bytes)) (sym before.0) tt) in
-      let same : k ≡ length bytes = cc in
-      (now.1 ∙ ap (λ r. room_left r (length bytes)) before.0, AreWhole-more ps (piece bytes k) before.1 same));
-  later = (let same : c.faults ≡ b.faults = ap (λ s. s.faults) says.2 in omega (arith, log.later));
-}
-
-unchanged : {A : Type 0} (o : Option (List A)) → o ≡ option_map (λ all. all ++ []) o
-unchanged None = refl
-unchanged (Some all) = ap Some (sym (append-nil all))
-
--- the empty log
-pub none-SinkLog : (a : SinkState) → SinkLog a [] a
-none-SinkLog a = record { taken = tt; bytes = unchanged a.bytes; puts = unchanged a.puts; endless = λ e. (e, tt); later = omega arith }
-
--- one put
-pub one-SinkLog : (a b : SinkState) (bytes : List ℕ) (k : ℕ) → PutSays a bytes (Took k) b
-    → (Fits a.room (length bytes) → IsTakenWhole a bytes (Took k) b) → SinkLog a (piece bytes k ∷ []) b
-one-SinkLog a b bytes k says whole = put-SinkLog a a b [] bytes k (none-SinkLog a) says whole
-
--- how far a text has come: these pieces were put, and the rest is still to go
-pub record TextLog (old : SinkState) (text rest : List ℕ) (now : SinkState) : Type 0 where
-  pub pieces : List Piece
-  pub log : SinkLog old pieces now
-  pub whole : bytes_of pieces ++ rest ≡ text
-  pub steady : now.faults ≡ old.faults
-  pub sure : Fits old.room (length text) → Fits now.room (length rest) × (room_left now.room (length rest) ≡ room_left old.room (length text))
-
-fits_zero : (room : Room) (n : ℕ) → n ≡ 0 → Fits room n
-fits_zero (Sure room) n e = omega arith
-fits_zero Endless n e = tt
+-- ---- room
 
 -- no bytes leave the room
 pub room_left-zero : (room : Room) (n : ℕ) → n ≡ 0 → room_left room n ≡ room
@@ -93,135 +27,299 @@ pub fits-add : (room : Room) (m n : ℕ) → Fits room (m + n) → Fits room m �
 fits-add (Sure room) m n h = (omega arith, omega arith)
 fits-add Endless m n h = (tt, tt)
 
--- a text goes on by a put
-pub put-TextLog : (a b c : SinkState) (text rest : List ℕ) (k : ℕ) → TextLog a text rest b
-    → PutSays b rest (Took k) c → (Fits b.room (length rest) → IsTakenWhole b rest (Took k) c)
-    → TextLog a text (take (length rest - k) (drop k rest)) c
-put-TextLog a b c text rest k log says whole =
-    let all : take (length rest - k) (drop k rest) ≡ drop k rest = take_all (length rest - k) (drop k rest) (omega (arith, length-drop {A = ℕ})) in
-    let P : List ℕ → Type 0 = λ next. TextLog a text next c in
-    subst P (sym all) (record {
-      pieces = log.pieces ++ piece rest k ∷ [];
-      log = put-SinkLog a b c log.pieces rest k log.log says whole;
-      whole = rw (bytes_of-more log.pieces (piece rest k), append_assoc) (ap (λ w. bytes_of log.pieces ++ w) (take-append-drop k rest) ∙ log.whole);
-      steady = ap (λ s. s.faults) says.2 ∙ log.steady;
-      sure = λ fits.
-          (let before = log.sure fits in
-          let now = whole before.0 in
-          let same : k ≡ length rest = cc in
-          let none : length (drop k rest) ≡ 0 = omega (arith, length-drop {A = ℕ}) in
-          (fits_zero c.room (length (drop k rest)) none, room_left-zero c.room (length (drop k rest)) none ∙ now.1 ∙ before.1));
-    })
+-- the sure room of a sink with lists falls by what is taken
+pub sure_room-left : (fails most : List ℕ) (left k : ℕ) → sure_room fails most (left - k) ≡ sure_room fails most left - k
+sure_room-left [] [] left k = refl
+sure_room-left (n ∷ fails) most left k = omega arith
+sure_room-left [] (n ∷ most) left k = omega arith
+
+-- ---- logs
+
+-- one more piece
+abbrev pub piece : List ℕ → ℕ → Piece
+piece bytes k = record { offered = bytes; taken = k }
+
+-- one log after another
+pub append-SinkLog : (a b c : SinkState) (ps qs : List Piece) (fault : Option (List ℕ)) → SinkLog a ps None b → SinkLog b qs fault c
+    → SinkLog a (ps ++ qs) fault c
+append-SinkLog a b c [] qs fault one two = subst (λ s. SinkLog s qs fault c) one two
+append-SinkLog a b c (p ∷ ps) qs fault one two = (one.0, one.1, append-SinkLog one.0 b c ps qs fault one.2 two)
+
+-- the empty log
+pub none-SinkLog : (a : SinkState) → SinkLog a [] None a
+none-SinkLog a = refl
+
+-- one put that took bytes
+pub one-SinkLog : (a b : SinkState) (bytes : List ℕ) (k : ℕ) → PutSays a bytes (Took k) b
+    → (Fits a.room (length bytes) → Took k ≡ Took (length bytes)) → SinkLog a (piece bytes k ∷ []) None b
+one-SinkLog a b bytes k says sure = (b, record { says = says; sure = sure }, refl)
+
+-- one put that failed
+pub failed-SinkLog : (a b : SinkState) (bytes : List ℕ) → PutSays a bytes Failed b
+    → (Fits a.room (length bytes) → Failed ≡ Took (length bytes)) → SinkLog a [] (Some bytes) b
+failed-SinkLog a b bytes says sure = (b, record { says = says; sure = sure }, refl)
+
+-- the pieces of a log were taken
+pub log-AreTaken : (a b : SinkState) (ps : List Piece) (fault : Option (List ℕ)) → SinkLog a ps fault b → AreTaken ps
+log-AreTaken a b [] fault log = tt
+log-AreTaken a b (p ∷ ps) fault log = (log.1.says.0, log.1.says.1, log-AreTaken log.0 b ps fault log.2)
+
+grown : {A : Type 0} (o : Option (List A)) (xs ys : List A) → option_map (λ all. all ++ ys) (option_map (λ all. all ++ xs) o) ≡ option_map (λ all. all ++ (xs ++ ys)) o
+grown None xs ys = refl
+grown (Some all) xs ys = ap Some (append_assoc all xs ys)
+
+unchanged : {A : Type 0} (o : Option (List A)) → o ≡ option_map (λ all. all ++ []) o
+unchanged None = refl
+unchanged (Some all) = ap Some (sym (append-nil all))
+
+-- what the sink tells as its bytes grew by those that were taken
+pub log-bytes : (a b : SinkState) (ps : List Piece) (fault : Option (List ℕ)) → SinkLog a ps fault b
+    → b.bytes ≡ option_map (λ all. all ++ bytes_of ps) a.bytes
+log-bytes a b [] None log = ap (λ s. s.bytes) log ∙ unchanged a.bytes
+log-bytes a b [] (Some bytes) log = ap (λ s. s.bytes) log.2 ∙ ap (λ s. s.bytes) log.1.says.2 ∙ unchanged a.bytes
+log-bytes a b (p ∷ ps) fault log = log-bytes log.0 b ps fault log.2
+    ∙ ap (λ s. option_map (λ all. all ++ bytes_of ps) s.bytes) log.1.says.3
+    ∙ grown a.bytes (take p.taken p.offered) (bytes_of ps)
+
+-- what it tells as its puts grew by these
+pub log-puts : (a b : SinkState) (ps : List Piece) (fault : Option (List ℕ)) → SinkLog a ps fault b
+    → b.puts ≡ option_map (λ all. all ++ map sizes ps) a.puts
+log-puts a b [] None log = ap (λ s. s.puts) log ∙ unchanged a.puts
+log-puts a b [] (Some bytes) log = ap (λ s. s.puts) log.2 ∙ ap (λ s. s.puts) log.1.says.2 ∙ unchanged a.puts
+log-puts a b (p ∷ ps) fault log = log-puts log.0 b ps fault log.2
+    ∙ ap (λ s. option_map (λ all. all ++ map sizes ps) s.puts) log.1.says.3
+    ∙ grown a.puts (sizes p ∷ []) (map sizes ps)
+
+-- what it was made with stays
+pub log-fixed : (a b : SinkState) (ps : List Piece) (fault : Option (List ℕ)) → SinkLog a ps fault b → b.fixed ≡ a.fixed
+log-fixed a b [] None log = ap (λ s. s.fixed) log
+log-fixed a b [] (Some bytes) log = ap (λ s. s.fixed) log.2 ∙ ap (λ s. s.fixed) log.1.says.2
+log-fixed a b (p ∷ ps) fault log = log-fixed log.0 b ps fault log.2 ∙ ap (λ s. s.fixed) log.1.says.3
+
+long_piece : (p : Piece) (ps : List Piece) → p.taken ≤ length p.offered → length (bytes_of (p ∷ ps)) ≡ p.taken + length (bytes_of ps)
+long_piece p ps few = length-append (take p.taken p.offered) (bytes_of ps)
+    ∙ ap (λ n. n + length (bytes_of ps)) (omega (arith, length-take {A = ℕ}))
+
+-- its sure room fell by what was taken
+pub log-room : (a b : SinkState) (ps : List Piece) (fault : Option (List ℕ)) → SinkLog a ps fault b
+    → b.room ≡ room_left a.room (length (bytes_of ps))
+log-room a b [] None log = ap (λ s. s.room) log ∙ sym (room_left-zero a.room 0 refl)
+log-room a b [] (Some bytes) log = ap (λ s. s.room) log.2 ∙ ap (λ s. s.room) log.1.says.2 ∙ sym (room_left-zero a.room 0 refl)
+log-room a b (p ∷ ps) fault log = log-room log.0 b ps fault log.2
+    ∙ ap (λ s. room_left s.room (length (bytes_of ps))) log.1.says.3
+    ∙ room_left-add a.room p.taken (length (bytes_of ps))
+    ∙ ap (room_left a.room) (sym (long_piece p ps log.1.says.1))
+
+-- where no put failed its count stood
+pub log-steady : (a b : SinkState) (ps : List Piece) → SinkLog a ps None b → b.faults ≡ a.faults
+log-steady a b [] log = ap (λ s. s.faults) log
+log-steady a b (p ∷ ps) log = log-steady log.0 b ps log.2 ∙ ap (λ s. s.faults) log.1.says.3
+
+-- where one failed it rose
+pub log-rose : (a b : SinkState) (ps : List Piece) (bytes : List ℕ) → SinkLog a ps (Some bytes) b → Rose a.faults b.faults
+log-rose a b [] bytes log = subst (λ s. Rose a.faults s.faults) (sym log.2) log.1.says.1
+log-rose a b (p ∷ ps) bytes log =
+    subst (λ n. Rose n b.faults) (ap (λ s. s.faults) log.1.says.3) (log-rose log.0 b ps bytes log.2)
+
+-- it never falls
+pub log-later : (a b : SinkState) (ps : List Piece) (fault : Option (List ℕ)) → SinkLog a ps fault b → a.faults ≤ b.faults
+log-later a b [] None log = (let same = ap (λ s. s.faults) log in omega arith)
+log-later a b [] (Some bytes) log = (let same = ap (λ s. s.faults) log.2 in omega (arith, log.1.says.0))
+log-later a b (p ∷ ps) fault log =
+    (let same = ap (λ s. s.faults) log.1.says.3 in omega (arith, log-later log.0 b ps fault log.2))
+
+-- ---- texts
+
+-- a text of which some puts were made: whatever is put of the rest, is put of the text
+abbrev pub TextLog : SinkState → List ℕ → List ℕ → SinkState → Type 0
+TextLog old text rest now = (whole : Bool) (end : SinkState) → PutsText now rest whole end → PutsText old text whole end
 
 -- nothing of a text has been put yet
 pub none-TextLog : (a : SinkState) (text : List ℕ) → TextLog a text text a
-none-TextLog a text = record { pieces = []; log = none-SinkLog a; whole = refl; steady = refl; sure = λ fits. (fits, refl) }
+none-TextLog a text = λ whole end puts. puts
+
+some-≢ : (bytes : List ℕ) → 0 < length bytes → bytes ≢ []
+some-≢ [] some = λ e. omega arith
+some-≢ (x ∷ bytes) some = λ e. cc
+
+-- a put of the whole rest offers a front of it
+whole_front : (rest : List ℕ) → 0 < length rest → IsFront rest rest
+whole_front rest some = (some-≢ rest some, ([], append-nil rest))
+
+-- a text goes on by a put
+pub put-TextLog : (a b c : SinkState) (text rest : List ℕ) (k : ℕ) → TextLog a text rest b
+    → PutSays b rest (Took k) c → (Fits b.room (length rest) → Took k ≡ Took (length rest))
+    → TextLog a text (take (length rest - k) (drop k rest)) c
+put-TextLog a b c text rest k log says sure = λ whole end puts. log whole end (record {
+  pieces = piece rest k ∷ puts.pieces;
+  fault = puts.fault;
+  of_text = (
+    whole_front rest (omega (arith, says.0, says.1)),
+    subst (λ t. AreOf t puts.pieces puts.fault whole) (take_all (length rest - k) (drop k rest) (omega (arith, length-drop {A = ℕ}))) puts.of_text,
+  );
+  log = (c, record { says = says; sure = sure }, puts.log);
+})
+
+-- nothing to put
+none-PutsText : (a : SinkState) (rest : List ℕ) → length rest ≡ 0 → PutsText a rest true a
+none-PutsText a [] e = record { pieces = []; fault = None; of_text = (refl, refl); log = refl }
+none-PutsText a (x ∷ rest) e = absurd (omega arith)
 
 -- a text of which nothing is left is put whole
 pub whole-PutsText : (a b : SinkState) (text rest : List ℕ) → TextLog a text rest b → length rest ≡ 0 → PutsText a text true b
-whole-PutsText a b text [] log e = (log.pieces, log.log, sym (append-nil (bytes_of log.pieces)) ∙ log.whole, log.steady)
-whole-PutsText a b text (x ∷ rest) log e = absurd (omega arith)
-
-pub whole-IsPutSurely : (a b : SinkState) (text rest : List ℕ) → TextLog a text rest b → length rest ≡ 0
-    → IsPutSurely a.room (length text) true b.room
-whole-IsPutSurely a b text rest log e = λ fits. (refl, sym (room_left-zero b.room (length rest) e) ∙ (log.sure fits).1)
-
--- a put that failed leaves the log
-pub failed-SinkLog : (a b c : SinkState) (ps : List Piece) (bytes : List ℕ) → SinkLog a ps b
-    → PutSays b bytes Failed c → (Fits b.room (length bytes) → IsTakenWhole b bytes Failed c) → SinkLog a ps c
-failed-SinkLog a b c ps bytes log says whole = record {
-  taken = log.taken;
-  bytes = says.2 ∙ log.bytes;
-  puts = says.3 ∙ log.puts;
-  endless = λ e.
-      (let before = log.endless e in
-      let now = whole (subst (λ r. Fits r (length bytes)) (sym before.0) tt) in
-      absurd (let never : Failed ≡ Took (length bytes) = now.0 in cc));
-  later = omega (arith, log.later, says.0);
-}
+whole-PutsText a b text rest log e = log true b (none-PutsText b rest e)
 
 -- a put failed before the end of a text
 pub failed-PutsText : (a b c : SinkState) (text rest : List ℕ) → TextLog a text rest b → 0 < length rest
-    → PutSays b rest Failed c → (Fits b.room (length rest) → IsTakenWhole b rest Failed c) → PutsText a text false c
-failed-PutsText a b c text rest log some says whole = (
-  log.pieces,
-  failed-SinkLog a b c log.pieces rest log.log says whole,
-  (rest, (λ e. (let none : length rest ≡ 0 = ap length e in omega arith)), log.whole),
-  subst (λ n. Rose n c.faults) log.steady says.1,
+    → PutSays b rest Failed c → (Fits b.room (length rest) → Failed ≡ Took (length rest)) → PutsText a text false c
+failed-PutsText a b c text rest log some says sure = log false c (record {
+  pieces = [];
+  fault = Some rest;
+  of_text = (whole_front rest some, refl);
+  log = failed-SinkLog b c rest says sure;
+})
+
+-- a front of a text is one however it goes on
+front_on : (bytes first second : List ℕ) → IsFront bytes first → IsFront bytes (first ++ second)
+front_on bytes first second h = (h.0, (h.1.0 ++ second, sym (append_assoc bytes h.1.0 second) ∙ ap (λ w. w ++ second) h.1.1))
+
+-- a front is no longer than its text
+front_fits : (bytes text : List ℕ) → IsFront bytes text → length bytes ≤ length text
+front_fits bytes text h = (let long = ap length h.1.1 in omega (arith, length-append {A = ℕ}))
+
+-- what is left of a longer text
+left_on : (p : Piece) (first second : List ℕ) → p.taken ≤ length p.offered → IsFront p.offered first
+    → drop p.taken first ++ second ≡ drop p.taken (first ++ second)
+left_on p first second few front = sym (drop-append-le p.taken first second (omega (arith, front_fits p.offered first front)))
+
+-- the puts of a text, and then those of one behind it
+then-AreOf : (first second : List ℕ) (ps qs : List Piece) (fault : Option (List ℕ)) (whole : Bool) → AreTaken ps
+    → AreOf first ps None true → AreOf second qs fault whole → AreOf (first ++ second) (ps ++ qs) fault whole
+then-AreOf first second [] qs fault whole taken one two = subst (λ f. AreOf (f ++ second) qs fault whole) (sym one.0) two
+then-AreOf first second (p ∷ ps) qs fault whole taken one two = (
+  front_on p.offered first second one.0,
+  subst (λ t. AreOf t (ps ++ qs) fault whole) (left_on p first second taken.1 one.0)
+      (then-AreOf (drop p.taken first) second ps qs fault whole taken.2 one.1 two),
 )
 
--- a put within the sure room doesn't fail
-pub failed-IsPutSurely : (a b c : SinkState) (text rest : List ℕ) → TextLog a text rest b
-    → (Fits b.room (length rest) → IsTakenWhole b rest Failed c) → IsPutSurely a.room (length text) false c.room
-failed-IsPutSurely a b c text rest log whole = λ fits.
-    absurd (let never : Failed ≡ Took (length rest) = (whole (log.sure fits).0).0 in cc)
+-- the puts of a text that weren't whole are those of a longer one
+part-AreOf : (first second : List ℕ) (ps : List Piece) (fault : Option (List ℕ)) → AreTaken ps
+    → AreOf first ps fault false → AreOf (first ++ second) ps fault false
+part-AreOf first second [] None taken one = absurd (let e : false ≡ true = one.1 in cc)
+part-AreOf first second [] (Some bytes) taken one = (front_on bytes first second one.0, refl)
+part-AreOf first second (p ∷ ps) fault taken one = (
+  front_on p.offered first second one.0,
+  subst (λ t. AreOf t ps fault false) (left_on p first second taken.1 one.0)
+      (part-AreOf (drop p.taken first) second ps fault taken.2 one.1),
+)
 
-AreTaken-append : (ps qs : List Piece) → AreTaken ps → AreTaken qs → AreTaken (ps ++ qs)
-AreTaken-append [] qs h g = g
-AreTaken-append (p ∷ ps) qs h g = (h.0, h.1, AreTaken-append ps qs h.2 g)
+-- where a text was put whole no put failed
+whole_fault : (text : List ℕ) (ps : List Piece) (fault : Option (List ℕ)) → AreOf text ps fault true → fault ≡ None
+whole_fault text [] None of_text = refl
+whole_fault text [] (Some bytes) of_text = absurd (let e : true ≡ false = of_text.1 in cc)
+whole_fault text (p ∷ ps) fault of_text = whole_fault (drop p.taken text) ps fault of_text.1
 
-AreWhole-append : (ps qs : List Piece) → AreWhole ps → AreWhole qs → AreWhole (ps ++ qs)
-AreWhole-append [] qs h g = g
-AreWhole-append (p ∷ ps) qs h g = (h.0, AreWhole-append ps qs h.1 g)
+-- where it wasn't one did
+part_fault : (text : List ℕ) (ps : List Piece) (fault : Option (List ℕ)) → AreOf text ps fault false → (bytes : List ℕ) × (fault ≡ Some bytes)
+part_fault text [] None of_text = absurd (let e : false ≡ true = of_text.1 in cc)
+part_fault text [] (Some bytes) of_text = (bytes, refl)
+part_fault text (p ∷ ps) fault of_text = part_fault (drop p.taken text) ps fault of_text.1
 
--- one log after another
-pub append-SinkLog : (a b c : SinkState) (ps qs : List Piece) → SinkLog a ps b → SinkLog b qs c → SinkLog a (ps ++ qs) c
-append-SinkLog a b c ps qs first then = record {
-  taken = AreTaken-append ps qs first.taken then.taken;
-  bytes = then.bytes ∙ ap (option_map (λ all. all ++ bytes_of qs)) first.bytes
-      ∙ grown a.bytes (bytes_of ps) (bytes_of qs) _ (flat_map-append (λ piece. take piece.taken piece.offered) ps qs);
-  puts = then.puts ∙ ap (option_map (λ all. all ++ map sizes qs)) first.puts
-      ∙ grown a.puts (map sizes ps) (map sizes qs) _ (map-append sizes ps qs);
-  endless = λ e.
-      (let one = first.endless e in
-      let two = then.endless one.0 in
-      (two.0, AreWhole-append ps qs one.1 two.1));
-  later = omega (arith, first.later, then.later);
-}
+-- the steady log of a text that was put whole
+pub whole-SinkLog : (a b : SinkState) (text : List ℕ) (puts : PutsText a text true b) → SinkLog a puts.pieces None b
+whole-SinkLog a b text puts = subst (λ f. SinkLog a puts.pieces f b) (whole_fault text puts.pieces puts.fault puts.of_text) puts.log
+
+-- while a text was put whole the count stood
+pub steady-PutsText : (a b : SinkState) (text : List ℕ) → PutsText a text true b → b.faults ≡ a.faults
+steady-PutsText a b text puts = log-steady a b puts.pieces (whole-SinkLog a b text puts)
+
+-- where it wasn't whole the count rose
+pub rose-PutsText : (a b : SinkState) (text : List ℕ) → PutsText a text false b → Rose a.faults b.faults
+rose-PutsText a b text puts =
+    let one = part_fault text puts.pieces puts.fault puts.of_text in
+    log-rose a b puts.pieces one.0 (subst (λ f. SinkLog a puts.pieces f b) one.1 puts.log)
 
 -- a text after one that was put whole
 pub then-PutsText : (a b c : SinkState) (first second : List ℕ) (whole : Bool) → PutsText a first true b → PutsText b second whole c
     → PutsText a (first ++ second) whole c
-then-PutsText a b c first second true one two = (
-  one.0 ++ two.0,
-  append-SinkLog a b c one.0 two.0 one.1 two.1,
-  flat_map-append (λ p. take p.taken p.offered) one.0 two.0 ∙ ap (λ w. w ++ bytes_of two.0) one.2 ∙ ap (λ w. first ++ w) two.2,
-  two.3 ∙ one.3,
-)
-then-PutsText a b c first second false one two = (
-  one.0 ++ two.0,
-  append-SinkLog a b c one.0 two.0 one.1 two.1,
-  (
-    two.2.0,
-    two.2.1,
-    rw (flat_map-append (λ p. take p.taken p.offered) one.0 two.0, append_assoc)
-        (ap (λ w. w ++ (bytes_of two.0 ++ two.2.0)) one.2 ∙ ap (λ w. first ++ w) two.2.2),
-  ),
-  subst (λ n. Rose n c.faults) one.3 two.3,
-)
-
-longer-≢ : (rest second : List ℕ) → rest ≢ [] → rest ++ second ≢ []
-longer-≢ [] second some = λ e. some refl
-longer-≢ (x ∷ rest) second some = λ e. cc
+then-PutsText a b c first second whole one two =
+    let log = whole-SinkLog a b first one in
+    record {
+      pieces = one.pieces ++ two.pieces;
+      fault = two.fault;
+      of_text = then-AreOf first second one.pieces two.pieces two.fault whole (log-AreTaken a b one.pieces None log)
+          (subst (λ f. AreOf first one.pieces f true) (whole_fault first one.pieces one.fault one.of_text) one.of_text) two.of_text;
+      log = append-SinkLog a b c one.pieces two.pieces two.fault log two.log;
+    }
 
 -- nothing after a text that was put in part
-pub part-PutsText : (a b : SinkState) (first second : List ℕ) → PutsText a first false b → PutsText a (first ++ second) false b
-part-PutsText a b first second one = (
-  one.0,
-  one.1,
-  (
-    one.2.0 ++ second,
-    longer-≢ one.2.0 second one.2.1,
-    sym (append_assoc (bytes_of one.0) one.2.0 second) ∙ ap (λ w. w ++ second) one.2.2,
-  ),
-  one.3,
-)
+pub longer-PutsText : (a b : SinkState) (first second : List ℕ) → PutsText a first false b → PutsText a (first ++ second) false b
+longer-PutsText a b first second one = record {
+  pieces = one.pieces;
+  fault = one.fault;
+  of_text = part-AreOf first second one.pieces one.fault (log-AreTaken a b one.pieces one.fault one.log) one.of_text;
+  log = one.log;
+}
 
--- two texts that are within the sure room together
-pub then-IsPutSurely : (a b c : Room) (m n : ℕ) (one two : Bool) → IsPutSurely a m one b → IsPutSurely b n two c
-    → IsPutSurely a (m + n) two c
-then-IsPutSurely a b c m n one two first then = λ fits.
-    let parts = fits-add a m n fits in
-    let before = first parts.0 in
-    let now = then (subst (λ r. Fits r n) (sym before.1) parts.1) in
-    (now.0, now.1 ∙ ap (λ r. room_left r n) before.1 ∙ room_left-add a m n)
+-- what a put took of a front of a text is a front of the text
+taken_front : (p : Piece) (text : List ℕ) → p.taken ≤ length p.offered → IsFront p.offered text → take p.taken p.offered ≡ take p.taken text
+taken_front p text few front = sym (ap (take p.taken) (sym front.1.1) ∙ take-append-le p.taken p.offered front.1.0 few)
+
+-- what was taken is the text up to a rest, which is left exactly where the text isn't whole
+pub record IsPart (text : List ℕ) (ps : List Piece) (whole : Bool) : Type 0 where
+  pub rest : List ℕ
+  pub parts : bytes_of ps ++ rest ≡ text
+  pub none : whole ≡ true → rest ≡ []
+  pub some : whole ≡ false → rest ≢ []
+
+front_some : (bytes text : List ℕ) → IsFront bytes text → text ≢ []
+front_some [] text front = λ e. front.0 refl
+front_some (x ∷ bytes) text front = λ e. (let wrong : x ∷ (bytes ++ front.1.0) ≡ [] = front.1.1 ∙ e in cc)
+
+pub part-AreTaken : (text : List ℕ) (ps : List Piece) (fault : Option (List ℕ)) (whole : Bool) → AreTaken ps → AreOf text ps fault whole → IsPart text ps whole
+part-AreTaken text [] None whole taken of_text = record { rest = text; parts = refl; none = λ e. of_text.0; some = λ e. absurd (let is = of_text.1 in cc) }
+part-AreTaken text [] (Some bytes) whole taken of_text =
+    record { rest = text; parts = refl; none = λ e. absurd (let is = of_text.1 in cc); some = λ e. front_some bytes text of_text.0 }
+part-AreTaken text (p ∷ ps) fault whole taken of_text =
+    let later = part-AreTaken (drop p.taken text) ps fault whole taken.2 of_text.1 in
+    record {
+      rest = later.rest;
+      parts = append_assoc (take p.taken p.offered) (bytes_of ps) later.rest ∙ ap (λ w. take p.taken p.offered ++ w) later.parts
+          ∙ ap (λ w. w ++ drop p.taken text) (taken_front p text taken.1 of_text.0) ∙ take-append-drop p.taken text;
+      none = later.none;
+      some = later.some;
+    }
+
+-- what the puts of a text took of it
+pub part-PutsText : (a b : SinkState) (text : List ℕ) (whole : Bool) (puts : PutsText a text whole b) → IsPart text puts.pieces whole
+part-PutsText a b text whole puts =
+    part-AreTaken text puts.pieces puts.fault whole (log-AreTaken a b puts.pieces puts.fault puts.log) puts.of_text
+
+-- a text that was put whole lowered the sure room by its length
+pub room-PutsText : (a b : SinkState) (text : List ℕ) → PutsText a text true b → b.room ≡ room_left a.room (length text)
+room-PutsText a b text puts =
+    let part = part-PutsText a b text true puts in
+    let all : bytes_of puts.pieces ≡ text = sym (append-nil (bytes_of puts.pieces)) ∙ ap (λ r. bytes_of puts.pieces ++ r) (sym (part.none refl)) ∙ part.parts in
+    log-room a b puts.pieces puts.fault puts.log ∙ ap (λ t. room_left a.room (length t)) all
+
+-- fewer bytes are within the sure room too
+fits_fewer : (room : Room) (m n : ℕ) → m ≤ n → Fits room n → Fits room m
+fits_fewer (Sure room) m n few fits = omega arith
+fits_fewer Endless m n few fits = tt
+
+sure-AreOf : (a b : SinkState) (text : List ℕ) (ps : List Piece) (fault : Option (List ℕ)) (whole : Bool) → AreOf text ps fault whole
+    → SinkLog a ps fault b → Fits a.room (length text) → whole ≡ true
+sure-AreOf a b text [] None whole of_text log fits = of_text.1
+sure-AreOf a b text [] (Some bytes) whole of_text log fits =
+    absurd (let never : Failed ≡ Took (length bytes) = log.1.sure (fits_fewer a.room (length bytes) (length text) (front_fits bytes text of_text.0) fits) in cc)
+sure-AreOf a b text (p ∷ ps) fault whole of_text log fits =
+    let few : p.taken ≤ length text = omega (arith, front_fits p.offered text of_text.0, log.1.says.1) in
+    let parts : length text ≡ p.taken + length (drop p.taken text) = omega (arith, length-drop {A = ℕ}) in
+    let left : Fits (room_left a.room p.taken) (length (drop p.taken text)) =
+    (fits-add a.room p.taken (length (drop p.taken text)) (subst (Fits a.room) parts fits)).1 in
+    sure-AreOf log.0 b (drop p.taken text) ps fault whole of_text.1 log.2
+    (subst (λ r. Fits r (length (drop p.taken text))) (sym (ap (λ s. s.room) log.1.says.3)) left)
+
+-- a text within the sure room is put whole
+pub sure-PutsText : (a b : SinkState) (text : List ℕ) (whole : Bool) → PutsText a text whole b → IsPutSurely a.room (length text) whole
+sure-PutsText a b text whole puts = λ fits. sure-AreOf a b text puts.pieces puts.fault whole puts.of_text puts.log fits

@@ -15,7 +15,7 @@ pub record BufSinkState : Type 0 where
 
 -- it tells its bytes and no puts, and its sure room is the room left
 abbrev pub told_of_buf : BufSinkState → SinkState
-told_of_buf sink = record { bytes = Some sink.bytes; puts = None; room = Sure sink.left; faults = sink.faults }
+told_of_buf sink = record { bytes = Some sink.bytes; puts = None; numbers = None; room = Sure sink.left; faults = sink.faults; fixed = [] }
 
 -- a piece that fits in the room left is taken whole, and a longer one fails
 abbrev pub PutsWhole : BufSinkState → List ℕ → Put → BufSinkState → Type 0
@@ -43,13 +43,15 @@ sure_room [] [] left = left
 sure_room (n ∷ fails) most left = 0
 sure_room [] (n ∷ most) left = 0
 
--- it tells its bytes and its puts
+-- it tells its bytes, its puts and its numbers
 abbrev pub told_of_mem : MemSinkState → SinkState
 told_of_mem sink = record {
   bytes = Some sink.bytes;
   puts = Some sink.puts;
+  numbers = Some (record { calls = sink.number; fails = sink.fails });
   room = Sure (sure_room sink.fails sink.most sink.left);
   faults = sink.faults;
+  fixed = [];
 }
 
 -- the next put fails: no room is left, or its number is listed

@@ -1,9 +1,11 @@
 -- What a run of several calls did to a store or a sink, as a log of the calls (this project's own).
 use Rattle.spec_base.specs.Listed.{is_listed}
-use Rattle.std.specs.Prelude.{◌≡◌, ℕ, ◌+◌, ◌-◌, ◌^◌, ◌≤◌, ◌<◌, Bool, true, false, List, [], ◌∷◌, ◌++◌, length, take, min, map, Some, IfSome}
-use Rattle.std.specs.Option.{option_map}
+use Rattle.std.specs.Prelude.{◌≡◌, ℕ, ◌+◌, ◌-◌, ◌^◌, ◌≤◌, ◌<◌, Bool, true, false, List, [], ◌∷◌, length, take, min, Option, Some, None, IfSome}
 use Rattle.std.specs.List.{flat_map}
-use Rattle.world_io.specs.Outside.{StoreState, Numbers, SinkState, Endless, KeepsFiles}
+use Rattle.world_io.specs.Outside.{StoreState, Numbers, SinkState, KeepsFiles}
+use Rattle.world_io.specs.Puts.{PutSays, Fits}
+use Rattle.world_io.specs.declared.sink.Put.{Put}
+use Rattle.world_io.specs.declared.sink.Put.TheVariants.{Took, Failed}
 
 -- ---- stores: for each call, newest first, whether it failed
 
@@ -31,6 +33,20 @@ pub record StoreLog (old : StoreState) (log : List Bool) (new : StoreState) : Ty
 
 -- ---- sinks: the puts, oldest first
 
+-- a put that was made: the bytes that were offered, and the sink's answer
+abbrev pub Offer : Type 0
+Offer = List ℕ × Put
+
+-- this put took the sink from old to new; within the sure room it is taken whole
+pub record IsOffered (old : SinkState) (offer : Offer) (new : SinkState) : Type 0 where
+  pub says : PutSays old offer.0 offer.1 new
+  pub sure : Fits old.room (length offer.0) → offer.1 ≡ Took (length offer.0)
+
+-- these puts, and no others, took the sink from old to new
+abbrev pub AreOffered : SinkState → List Offer → SinkState → Type 0
+AreOffered old [] new = new ≡ old
+AreOffered old (offer ∷ offers) new = (between : SinkState) × IsOffered old offer between × AreOffered between offers new
+
 -- a put that took some bytes: what it was offered, and how many bytes of that it took
 pub record Piece : Type 0 where
   pub offered : List ℕ
@@ -43,20 +59,17 @@ sizes piece = (length piece.offered, piece.taken)
 abbrev pub bytes_of : List Piece → List ℕ
 bytes_of pieces = flat_map (λ piece. take piece.taken piece.offered) pieces
 
+-- puts that took these pieces, and then, where there is one, a put of these bytes that failed
+abbrev pub offers_of : List Piece → Option (List ℕ) → List Offer
+offers_of [] None = []
+offers_of [] (Some bytes) = (bytes, Failed) ∷ []
+offers_of (piece ∷ pieces) fault = (piece.offered, Took piece.taken) ∷ offers_of pieces fault
+
+-- these pieces were taken, then, where there is one, a put of these bytes failed, and no other put was made
+abbrev pub SinkLog : SinkState → List Piece → Option (List ℕ) → SinkState → Type 0
+SinkLog old pieces fault new = AreOffered old (offers_of pieces fault) new
+
 -- at least one byte of each piece was taken, and no more than it has
 abbrev pub AreTaken : List Piece → Type 0
 AreTaken [] = Unit {0}
 AreTaken (piece ∷ pieces) = (0 < piece.taken) × (piece.taken ≤ length piece.offered) × AreTaken pieces
-
--- each piece was taken whole
-abbrev pub AreWhole : List Piece → Type 0
-AreWhole [] = Unit {0}
-AreWhole (piece ∷ pieces) = (piece.taken ≡ length piece.offered) × AreWhole pieces
-
--- these puts took the sink from old to new; beside them only puts that failed were made
-pub record SinkLog (old : SinkState) (pieces : List Piece) (new : SinkState) : Type 0 where
-  pub taken : AreTaken pieces
-  pub bytes : new.bytes ≡ option_map (λ all. all ++ bytes_of pieces) old.bytes
-  pub puts : new.puts ≡ option_map (λ all. all ++ map sizes pieces) old.puts
-  pub endless : old.room ≡ Endless → (new.room ≡ Endless) × AreWhole pieces
-  pub later : old.faults ≤ new.faults

@@ -1,16 +1,18 @@
 -- What contracts see of a store and of a sink (this project's own).
 use Rattle.spec_base.specs.Listed.{is_listed}
-use Rattle.std.specs.Prelude.{◌≡◌, ℕ, ◌+◌, ◌-◌, ◌^◌, ◌≤◌, ◌<◌, ◌==◌, Bool, List, min, Option, Some, None, IfSome, if◌then◌else◌}
+use Rattle.std.specs.Prelude.{◌≡◌, ℕ, ◌+◌, ◌-◌, ◌^◌, ◌≤◌, ◌<◌, ◌==◌, Bool, List, [], min, Option, Some, None, IfSome, if◌then◌else◌}
 use Rattle.std.specs.Option.{option_map}
 use Rattle.std.specs.Cmp.Lexicographic.{pointwise}
 use Rattle.spec_base.specs.Files.{Files}
 
--- ---- stores
+-- ---- numbers
 
--- how many calls of `look` and `fetch` were made, and the numbers, from 1, of those that fail
+-- how many calls were made, and the numbers, from 1, of those that fail. The calls of a store are looks and fetches, those of a sink are puts of at least one byte
 pub record Numbers : Type 0 where
   pub calls : ℕ
   pub fails : List ℕ
+
+-- ---- stores
 
 -- a store: its files and its numbers where it tells them, and its count of faults
 pub record StoreState : Type 0 where
@@ -49,16 +51,18 @@ pub data Room : Type 0 where
   Sure : ℕ → Room
   Endless : Room
 
--- a sink: its bytes and its puts (offered length, taken count) where it tells them, its sure room, and its count of faults
+-- a sink: its bytes, its puts (offered length, taken count) and its numbers where it tells them, its sure room, its count of faults, and what it was made with, which no put changes
 pub record SinkState : Type 0 where
   pub bytes : Option (List ℕ)
   pub puts : Option (List (ℕ × ℕ))
+  pub numbers : Option Numbers
   pub room : Room
   pub faults : ℕ
+  pub fixed : List ℕ
 
 -- a sink that tells nothing
 abbrev pub untold_sink : Room → ℕ → SinkState
-untold_sink room faults = record { bytes = None; puts = None; room = room; faults = faults }
+untold_sink room faults = record { bytes = None; puts = None; numbers = None; room = room; faults = faults; fixed = [] }
 
 -- ---- counts
 

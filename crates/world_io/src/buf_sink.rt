@@ -1,6 +1,6 @@
 //! A sink in memory that takes whole pieces.
 ghost use Rattle.std.specs.Prelude.{◌≡◌, ◌≤◌, ◌<◌, ◌+◌, ◌-◌, ◌^◌, [], length, min, IfOk, vec_len, vec_capacity};
-ghost use Rattle.world_io.specs.Puts.{PutSays, IsTakenWhole, Fits};
+ghost use Rattle.world_io.specs.Puts.{PutSays, Fits};
 ghost use Rattle.world_io.specs.Buffers.{told_of_buf, PutsWhole};
 
 use crate::sink::{Put, Sink};
@@ -55,7 +55,7 @@ impl Sink for BufSink {
     fn put(&mut self, bytes: &[u8]) -> Put
         ensures some { 0 < length bytes.now → PutSays (told_of_buf self.old) bytes.now result (told_of_buf self.new) }
         ensures none { length bytes.now ≡ 0 → (result ≡ Put.Took 0) × (told_of_buf self.new ≡ told_of_buf self.old) }
-        ensures sure { Fits (told_of_buf self.old).room (length bytes.now) → IsTakenWhole (told_of_buf self.old) bytes.now result (told_of_buf self.new) }
+        ensures sure { Fits (told_of_buf self.old).room (length bytes.now) → result ≡ Put.Took (length bytes.now) }
 
         // Which pieces fail, and what the sink is then.
         ensures whole { PutsWhole self.old bytes.now result self.new }

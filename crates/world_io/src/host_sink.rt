@@ -1,7 +1,7 @@
 //! A writer of the host.
 ghost use Rattle.std.specs.Prelude.{◌≡◌, ◌≤◌, ◌<◌, ◌+◌, ◌-◌, ◌^◌, length, min};
 ghost use Rattle.world_io.specs.Outside.{untold_sink, Sure};
-ghost use Rattle.world_io.specs.Puts.{PutSays, IsTakenWhole, Fits, WritesTaken};
+ghost use Rattle.world_io.specs.Puts.{PutSays, Fits, WritesTaken};
 
 use crate::sink::{Put, Sink};
 use std::io::Write;
@@ -31,7 +31,7 @@ impl<W: Write + Drop> Sink for HostSink<W> {
     fn put(&mut self, bytes: &[u8]) -> Put
         ensures some { 0 < length bytes.now → PutSays (untold_sink (Sure 0) self.old.faults) bytes.now result (untold_sink (Sure 0) self.new.faults) }
         ensures none { length bytes.now ≡ 0 → (result ≡ Put.Took 0) × (self.new ≡ self.old) }
-        ensures sure { Fits (Sure 0) (length bytes.now) → IsTakenWhole (untold_sink (Sure 0) self.old.faults) bytes.now result (untold_sink (Sure 0) self.new.faults) }
+        ensures sure { Fits (Sure 0) (length bytes.now) → result ≡ Put.Took (length bytes.now) }
 
         // What was taken went to the writer.
         ensures writer { WritesTaken (W.contents self.old.writer) bytes.now result (W.contents self.new.writer) }

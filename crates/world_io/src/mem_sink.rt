@@ -1,6 +1,6 @@
 //! A sink in memory with a fixed room, some of whose puts fail or take less than they are offered.
 ghost use Rattle.std.specs.Prelude.{◌≡◌, ◌≤◌, ◌<◌, ◌+◌, ◌-◌, ◌^◌, [], length, min, max, IfOk, slice_get};
-ghost use Rattle.world_io.specs.Puts.{PutSays, IsTakenWhole, Fits};
+ghost use Rattle.world_io.specs.Puts.{PutSays, Fits};
 ghost use Rattle.world_io.specs.Buffers.{told_of_mem, PutsListed, taken_count};
 
 use crate::sink::{Put, Sink};
@@ -8,8 +8,8 @@ use spec_base::NoMemory;
 use std::alloc::Global;
 use std::marker::Model;
 
-/// A buffer with a fixed room and two lists by which puts fail or fall short. It tells its bytes
-/// and its puts, and counts its failures. Where both lists are empty its sure room is the room left.
+/// A buffer with a fixed room and two lists by which puts fail or fall short. It tells its bytes,
+/// its puts and their numbers, and counts its failures. Where both lists are empty its sure room is the room left.
 #[derive(Drop)]
 pub struct MemSink {
     bytes: Vec<u8>,
@@ -97,7 +97,7 @@ impl Sink for MemSink {
     fn put(&mut self, bytes: &[u8]) -> Put
         ensures some { 0 < length bytes.now → PutSays (told_of_mem self.old) bytes.now result (told_of_mem self.new) }
         ensures none { length bytes.now ≡ 0 → (result ≡ Put.Took 0) × (self.new ≡ self.old) }
-        ensures sure { Fits (told_of_mem self.old).room (length bytes.now) → IsTakenWhole (told_of_mem self.old) bytes.now result (told_of_mem self.new) }
+        ensures sure { Fits (told_of_mem self.old).room (length bytes.now) → result ≡ Put.Took (length bytes.now) }
 
         // Which puts fail and how much they take, and what the sink is then.
         ensures listed { 0 < length bytes.now → PutsListed self.old bytes.now result self.new }
