@@ -21,7 +21,8 @@ use world_io::Sink;
 pub enum Written {
     /// The whole file was put, of so many bytes.
     Done(u64),
-    /// A put failed, and the sink counted it. A part from the front of the file was put.
+    /// A put failed, and the sink counted it. A part from the front of the file was put, and nothing
+    /// more was offered.
     SinkFault,
 }
 
@@ -98,7 +99,7 @@ pub fn write<O: Sink>(bytes: &[u8], parts: &Parts, sink: &mut O) -> Written
     ensures puts { PutsText (O.state sink.old) (rewritten_file bytes.now parts.now.image parts.now.layout (listed parts.now)) (is_done result) (O.state sink.new) }
     ensures length { IfDone result (λ n. n ≡ length (rewritten_file bytes.now parts.now.image parts.now.layout (listed parts.now))) }
     ensures known { length (rewritten_file bytes.now parts.now.image parts.now.layout (listed parts.now)) ≡ file_length parts.now.image parts.now.layout }
-    ensures sure { IsPutSurely (O.state sink.old).room (file_length parts.now.image parts.now.layout) (is_done result) (O.state sink.new).room }
+    ensures sure { IsPutSurely (O.state sink.old).room (file_length parts.now.image parts.now.layout) (is_done result) }
 {
     let mut window = Window::new();
     put_file(&mut window, sink, bytes, &parts.image, &parts.layout, parts)
@@ -120,7 +121,7 @@ pub fn write_from<C: CodeSource, O: Sink>(
     ensures puts { PutsText (O.state sink.old) (rewritten_file bytes.now image.now layout.now (C.code code.now)) (is_done result) (O.state sink.new) }
     ensures length { IfDone result (λ n. n ≡ length (rewritten_file bytes.now image.now layout.now (C.code code.now))) }
     ensures known { length (rewritten_file bytes.now image.now layout.now (C.code code.now)) ≡ file_length image.now layout.now }
-    ensures sure { IsPutSurely (O.state sink.old).room (file_length image.now layout.now) (is_done result) (O.state sink.new).room }
+    ensures sure { IsPutSurely (O.state sink.old).room (file_length image.now layout.now) (is_done result) }
 
     // What each put offered.
     ensures buffered { PutsBuffered buffer.old.size (O.state sink.old) (rewritten_file bytes.now image.now layout.now (C.code code.now)) (is_done result) (O.state sink.new) }
