@@ -35,6 +35,12 @@ sure_room-left [] (n ∷ most) left k = omega arith
 
 -- ---- logs
 
+-- the bytes of one piece more
+pub bytes_of-more : (ps : List Piece) (p : Piece) → bytes_of (ps ++ p ∷ []) ≡ bytes_of ps ++ take p.taken p.offered
+bytes_of-more [] p = append-nil (take p.taken p.offered)
+bytes_of-more (q ∷ qs) p = ap (λ w. take q.taken q.offered ++ w) (bytes_of-more qs p)
+    ∙ sym (append_assoc (take q.taken q.offered) (bytes_of qs) (take p.taken p.offered))
+
 -- one more piece
 abbrev pub piece : List ℕ → ℕ → Piece
 piece bytes k = record { offered = bytes; taken = k }
