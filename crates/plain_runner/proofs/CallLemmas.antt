@@ -85,8 +85,6 @@ module _ (p : Program) (s : State) (c : Core) (h : Held) (f : Descriptors) (show
         store_log = no_calls (Set f_new answer) plan refl o.store;
         out_log = none-SinkLog o.out;
         err_log = none-SinkLog o.err;
-        out_steady = refl;
-        err_steady = refl;
       }
 
   pub exit-Stops : (code : ℕ) (o : Outside) → plan_of p.layout s ≡ Exit code → Stops p s (Exited code) o c (space_of h) f o
@@ -95,9 +93,11 @@ module _ (p : Program) (s : State) (c : Core) (h : Held) (f : Descriptors) (show
         ends = ((λ files t. went (Exit code) plan files t 0 refl), makes (Exit code) plan);
         shows = shows;
         called = none-StoreLog o.store;
+        out_fault = None;
+        err_fault = None;
+        failed = (refl, refl);
         out_log = none-SinkLog o.out;
         err_log = none-SinkLog o.err;
-        cause = (refl, refl);
       }
 
   -- ---- opens
@@ -128,8 +128,6 @@ module _ (p : Program) (s : State) (c : Core) (h : Held) (f : Descriptors) (show
         store_log = subst (λ n. StoreLog o.store (replicate n false) st) (sym (makes (Look name) plan)) log;
         out_log = none-SinkLog o.out;
         err_log = none-SinkLog o.err;
-        out_steady = refl;
-        err_steady = refl;
       }
 
   -- a call on the store that failed
@@ -140,9 +138,11 @@ module _ (p : Program) (s : State) (c : Core) (h : Held) (f : Descriptors) (show
         ends = is;
         shows = subst (λ k. Shows p k space d s) (sym same_core) (subst (λ m. Shows p c m d s) (sym same_space) (subst (λ q. Shows p c (space_of h) q s) (sym same_files) shows));
         called = (more, subst (λ n. more < n) (sym (makes pl plan)) within, log);
+        out_fault = None;
+        err_fault = None;
+        failed = (refl, refl);
         out_log = none-SinkLog o.out;
         err_log = none-SinkLog o.err;
-        cause = (refl, refl);
       }
 
   pub open-TurnsTo : (name : Name) (o : Outside) (st : StoreState) (core : Core) (d : Descriptors) (r : Option Ending) → plan_of p.layout s ≡ Look name
@@ -190,8 +190,6 @@ module _ (p : Program) (s : State) (c : Core) (h : Held) (f : Descriptors) (show
         store_log = subst (λ n. StoreLog o.store (replicate n false) st) (sym (makes (Read d spot a) plan)) log;
         out_log = none-SinkLog o.out;
         err_log = none-SinkLog o.err;
-        out_steady = refl;
-        err_steady = refl;
       }
 
   pub read-TurnsTo : (d a : ℕ) (spot : ReadSpot) (o : Outside) (st : StoreState) (core : Core) (space : Space) (q : Descriptors) (r : Option Ending) → plan_of p.layout s ≡ Read d spot a → spot.count ≤ 65536
@@ -234,9 +232,9 @@ module _ (p : Program) (s : State) (c : Core) (h : Held) (f : Descriptors) (show
       }
 
   out-GoesOn : (a n k : ℕ) (o : Outside) (out : SinkState) → plan_of p.layout s ≡ Write true a n → n ≤ 65536
-      → k ≤ length (bytes_at (memory_in (data_byte (space_of h))) a n) → SinkLog o.out (piece (bytes_at (memory_in (data_byte (space_of h))) a n) k ∷ []) out → out.faults ≡ o.out.faults
+      → k ≤ length (bytes_at (memory_in (data_byte (space_of h))) a n) → SinkLog o.out (piece (bytes_at (memory_in (data_byte (space_of h))) a n) k ∷ []) None out
       → GoesOn p s o (answered_core c k) (space_of h) f (record o { out = out })
-  out-GoesOn a n k o out plan few most log steady =
+  out-GoesOn a n k o out plan few most log =
       let count : length (bytes_at (memory_in (data_byte (space_of h))) a n) ≡ n = bytes_at-length (memory_in (data_byte (space_of h))) a n in
       record {
         next = answered (record s { out = put s.out (bytes_at s.memory a n) k }) (pos k);
@@ -251,14 +249,12 @@ module _ (p : Program) (s : State) (c : Core) (h : Held) (f : Descriptors) (show
         store_log = no_calls (Write true a n) plan refl o.store;
         out_log = log;
         err_log = none-SinkLog o.err;
-        out_steady = steady;
-        err_steady = refl;
       }
 
   err-GoesOn : (a n k : ℕ) (o : Outside) (err : SinkState) → plan_of p.layout s ≡ Write false a n → n ≤ 65536
-      → k ≤ length (bytes_at (memory_in (data_byte (space_of h))) a n) → SinkLog o.err (piece (bytes_at (memory_in (data_byte (space_of h))) a n) k ∷ []) err → err.faults ≡ o.err.faults
+      → k ≤ length (bytes_at (memory_in (data_byte (space_of h))) a n) → SinkLog o.err (piece (bytes_at (memory_in (data_byte (space_of h))) a n) k ∷ []) None err
       → GoesOn p s o (answered_core c k) (space_of h) f (record o { err = err })
-  err-GoesOn a n k o err plan few most log steady =
+  err-GoesOn a n k o err plan few most log =
       let count : length (bytes_at (memory_in (data_byte (space_of h))) a n) ≡ n = bytes_at-length (memory_in (data_byte (space_of h))) a n in
       record {
         next = answered (record s { err = put s.err (bytes_at s.memory a n) k }) (pos k);
@@ -273,23 +269,23 @@ module _ (p : Program) (s : State) (c : Core) (h : Held) (f : Descriptors) (show
         store_log = no_calls (Write false a n) plan refl o.store;
         out_log = none-SinkLog o.out;
         err_log = log;
-        out_steady = refl;
-        err_steady = steady;
       }
 
   -- what a put of the call came to, as a turn
   out-TurnsTo : (a n : ℕ) (o : Outside) (out : SinkState) (core : Core) (r : Option Ending) → plan_of p.layout s ≡ Write true a n → n ≤ 65536
       → PutComesTo (bytes_at (memory_in (data_byte (space_of h))) a n) o.out c r core out → TurnsTo p s o r core (space_of h) f (record o { out = out })
   out-TurnsTo a n o out core None plan few came =
-      subst (λ k. GoesOn p s o k (space_of h) f (record o { out = out })) (sym came.2) (out-GoesOn a n came.0 o out plan few came.1 came.3 came.4)
+      subst (λ k. GoesOn p s o k (space_of h) f (record o { out = out })) (sym came.2) (out-GoesOn a n came.0 o out plan few came.1 came.3)
   out-TurnsTo a n o out core (Some SinkFault) plan few came =
       record {
-        ends = (true, a, n, calls (Write true a n) plan);
-        shows = subst (λ k. Shows p k (space_of h) f s) (sym came.2) shows;
+        ends = tt;
+        shows = subst (λ k. Shows p k (space_of h) f s) (sym came.1) shows;
         called = none-StoreLog o.store;
+        out_fault = Some (offered a n);
+        err_fault = None;
+        failed = (a, n, calls (Write true a n) plan, offered-are a n);
         out_log = came.0;
         err_log = none-SinkLog o.err;
-        cause = inl came.1;
       }
   out-TurnsTo a n o out core (Some (Exited code)) plan few came = absurd came
   out-TurnsTo a n o out core (Some (Trapped cause pc)) plan few came = absurd came
@@ -300,15 +296,17 @@ module _ (p : Program) (s : State) (c : Core) (h : Held) (f : Descriptors) (show
   err-TurnsTo : (a n : ℕ) (o : Outside) (err : SinkState) (core : Core) (r : Option Ending) → plan_of p.layout s ≡ Write false a n → n ≤ 65536
       → PutComesTo (bytes_at (memory_in (data_byte (space_of h))) a n) o.err c r core err → TurnsTo p s o r core (space_of h) f (record o { err = err })
   err-TurnsTo a n o err core None plan few came =
-      subst (λ k. GoesOn p s o k (space_of h) f (record o { err = err })) (sym came.2) (err-GoesOn a n came.0 o err plan few came.1 came.3 came.4)
+      subst (λ k. GoesOn p s o k (space_of h) f (record o { err = err })) (sym came.2) (err-GoesOn a n came.0 o err plan few came.1 came.3)
   err-TurnsTo a n o err core (Some SinkFault) plan few came =
       record {
-        ends = (false, a, n, calls (Write false a n) plan);
-        shows = subst (λ k. Shows p k (space_of h) f s) (sym came.2) shows;
+        ends = tt;
+        shows = subst (λ k. Shows p k (space_of h) f s) (sym came.1) shows;
         called = none-StoreLog o.store;
+        out_fault = None;
+        err_fault = Some (offered a n);
+        failed = (a, n, calls (Write false a n) plan, offered-are a n);
         out_log = none-SinkLog o.out;
         err_log = came.0;
-        cause = inr came.1;
       }
   err-TurnsTo a n o err core (Some (Exited code)) plan few came = absurd came
   err-TurnsTo a n o err core (Some (Trapped cause pc)) plan few came = absurd came

@@ -1,5 +1,5 @@
 -- How far a run has come.
-use Rattle.std.proofs.Common.{◌≡◌, inl, inr, ℕ, zero, suc, ◌+◌, ◌<◌, true, false, List, [], ◌∷◌, ◌++◌, length, map, slice_get, Some, None, refl, ap, sym, ◌∙◌, subst, arith}
+use Rattle.std.proofs.Common.{◌≡◌, ℕ, zero, suc, ◌+◌, ◌<◌, true, false, List, [], ◌∷◌, ◌++◌, length, map, slice_get, Option, Some, None, refl, ap, sym, ◌∙◌, subst, arith}
 use Rattle.std.specs.Prelude.{unwrap_or, All}
 use Rattle.std.proofs.Math.ListN.{replicate}
 use Rattle.std.proofs.lemmas.List.{append-nil, map-append, replicate-append-replicate}
@@ -8,7 +8,7 @@ use Rattle.spec_base.specs.Files.{Files}
 use Rattle.rv_model.specs.Space.{Space}
 use Rattle.program_model.specs.Descriptors.{Descriptors}
 use Rattle.program_model.specs.PlainRun.{State, Image as Program, Taken, Output, put, plain_state, state_after, next_state}
-use Rattle.world_io.specs.Outside.{StoreState, SinkState, Rose}
+use Rattle.world_io.specs.Outside.{StoreState, SinkState}
 use Rattle.world_io.specs.Logs.{Piece, StoreLog, SinkLog, sizes}
 use Rattle.world_io.proofs.Sinks.{append-SinkLog, none-SinkLog, bytes_of-more}
 use Rattle.world_io.proofs.Stores.{append-StoreLog, none-StoreLog, failed-Rose}
@@ -17,7 +17,7 @@ use Rattle.plain_runner.specs.declared.ending.Ending.{Ending}
 use Rattle.plain_runner.specs.declared.ending.Ending.TheVariants.{Exited, Trapped, TurnsOver, StoreFault, SinkFault, NoMemory}
 use Rattle.plain_runner.specs.StoreCalls.{next_calls, state_calls, calls_until}
 use Rattle.plain_runner.specs.Answers.{Answer, Answers}
-use Rattle.plain_runner.specs.Runs.{Outside, Shows, output_of, AgreeOn, Agrees, EndsBy, CallsStore, HasSinkCause, Reaches, RunsTo}
+use Rattle.plain_runner.specs.Runs.{Outside, Shows, output_of, AgreeOn, Agrees, EndsBy, CallsStore, Reaches, RunsTo}
 use Rattle.plain_runner.specs.Turns.{IsStart, Completes, alone, asks, puts_out, puts_err, piece, GoesOn, Stops, LastCalls}
 
 -- a state was reached by completed instructions, and what it put is what the sinks took
@@ -33,10 +33,8 @@ pub record RunLog (p : Program) (old : Outside) (n : ℕ) (core : Core) (space :
   pub out_is : state.out ≡ output_of outs
   pub err_is : state.err ≡ output_of errs
   pub store_log : StoreLog old.store (replicate calls false) now.store
-  pub out_log : SinkLog old.out outs now.out
-  pub err_log : SinkLog old.err errs now.err
-  pub out_steady : now.out.faults ≡ old.out.faults
-  pub err_steady : now.err.faults ≡ old.err.faults
+  pub out_log : SinkLog old.out outs None now.out
+  pub err_log : SinkLog old.err errs None now.err
 
 pub first-RunLog : (p : Program) (core : Core) (space : Space) (f : Descriptors) (o : Outside) → IsStart p core space f → RunLog p o 0 core space f o
 unfolding state_after calls_until
@@ -55,8 +53,6 @@ first-RunLog p core space f o start =
       store_log = none-StoreLog o.store;
       out_log = none-SinkLog o.out;
       err_log = none-SinkLog o.err;
-      out_steady = refl;
-      err_steady = refl;
     }
 
 -- ---- answers
@@ -189,16 +185,15 @@ module _ (p : Program) (old : Outside) (n : ℕ) (core : Core) (space : Space) (
         err_is = more.err_is;
         store_log = subst (λ l. StoreLog old.store l new.store) (after_calls (next_calls p log.state))
             (append-StoreLog old.store now.store new.store (replicate log.calls false) (replicate (next_calls p log.state) false) log.store_log turn.store_log);
-        out_log = append-SinkLog old.out now.out new.out log.outs turn.outs log.out_log turn.out_log;
-        err_log = append-SinkLog old.err now.err new.err log.errs turn.errs log.err_log turn.err_log;
-        out_steady = turn.out_steady ∙ log.out_steady;
-        err_steady = turn.err_steady ∙ log.err_steady;
+        out_log = append-SinkLog old.out now.out new.out log.outs turn.outs None log.out_log turn.out_log;
+        err_log = append-SinkLog old.err now.err new.err log.errs turn.errs None log.err_log turn.err_log;
       }
 
   -- ---- a turn that ends the run
 
-  same-log : (a b c : SinkState) (ps : List Piece) → SinkLog a ps b → SinkLog b [] c → SinkLog a ps c
-  same-log a b c ps one two = subst (λ qs. SinkLog a qs c) (append-nil ps) (append-SinkLog a b c ps [] one two)
+  -- no put more, but one that failed
+  last-log : (a b c : SinkState) (ps : List Piece) (fault : Option (List ℕ)) → SinkLog a ps None b → SinkLog b [] fault c → SinkLog a ps fault c
+  last-log a b c ps fault one two = subst (λ qs. SinkLog a qs fault c) (append-nil ps) (append-SinkLog a b c ps [] fault one two)
 
   no-more-calls : (new : StoreState) → StoreLog now.store [] new → StoreLog old.store (replicate log.calls false) new
   no-more-calls new last = append-StoreLog old.store now.store new (replicate log.calls false) [] log.store_log last
@@ -213,15 +208,6 @@ module _ (p : Program) (old : Outside) (n : ℕ) (core : Core) (space : Space) (
   called-along new (TurnsOver count) h = no-more-calls new h
   called-along new SinkFault h = no-more-calls new h
   called-along new NoMemory h = no-more-calls new h
-
-  cause-along : (out err : SinkState) (e : Ending) → HasSinkCause now.out now.err e out err → HasSinkCause old.out old.err e out err
-  cause-along out err (Exited code) h = (h.0 ∙ log.out_steady, h.1 ∙ log.err_steady)
-  cause-along out err (Trapped cause pc) h = (h.0 ∙ log.out_steady, h.1 ∙ log.err_steady)
-  cause-along out err (TurnsOver count) h = (h.0 ∙ log.out_steady, h.1 ∙ log.err_steady)
-  cause-along out err StoreFault h = (h.0 ∙ log.out_steady, h.1 ∙ log.err_steady)
-  cause-along out err NoMemory h = (h.0 ∙ log.out_steady, h.1 ∙ log.err_steady)
-  cause-along out err SinkFault h =
-      elim h [ inl r ↦ inl (subst (λ m. Rose m out.faults) log.out_steady r) | inr r ↦ inr (subst (λ m. Rose m err.faults) log.err_steady r) ]
 
   -- a state that is shown but for its exit code
   left-Shows : (core_new : Core) (space_new : Space) (f_new : Descriptors) (s : State) → Shows p core_new space_new f_new s → Shows p core_new space_new f_new (record s { exited = None })
@@ -255,9 +241,11 @@ module _ (p : Program) (old : Outside) (n : ℕ) (core : Core) (space : Space) (
         err_is = log.err_is;
         ends = ends;
         called = called-along new.store e stop.called;
-        out_log = same-log old.out now.out new.out log.outs log.out_log stop.out_log;
-        err_log = same-log old.err now.err new.err log.errs log.err_log stop.err_log;
-        cause = cause-along new.out new.err e stop.cause;
+        out_fault = stop.out_fault;
+        err_fault = stop.err_fault;
+        failed = stop.failed;
+        out_log = last-log old.out now.out new.out log.outs stop.out_fault log.out_log stop.out_log;
+        err_log = last-log old.err now.err new.err log.errs stop.err_fault log.err_log stop.err_log;
       }
 
   pub ended-RunsTo : (turns : ℕ) (e : Ending) (core_new : Core) (space_new : Space) (f_new : Descriptors) (new : Outside)
@@ -280,13 +268,15 @@ module _ (p : Program) (old : Outside) (n : ℕ) (core : Core) (space : Space) (
         err_is = log.err_is;
         ends = (omega (arith, left), refl);
         called = no-more-calls new.store stop.called;
-        out_log = same-log old.out now.out new.out log.outs log.out_log stop.out_log;
-        err_log = same-log old.err now.err new.err log.errs log.err_log stop.err_log;
-        cause = cause-along new.out new.err (Exited code) stop.cause;
+        out_fault = stop.out_fault;
+        err_fault = stop.err_fault;
+        failed = stop.failed;
+        out_log = last-log old.out now.out new.out log.outs stop.out_fault log.out_log stop.out_log;
+        err_log = last-log old.err now.err new.err log.errs stop.err_fault log.err_log stop.err_log;
       }
   ended-RunsTo turns (Trapped cause pc) core_new space_new f_new new left stop = ends-here turns (Trapped cause pc) core_new space_new f_new new (left, log.shows.exited, stop.ends) stop
   ended-RunsTo turns StoreFault core_new space_new f_new new left stop = ends-here turns StoreFault core_new space_new f_new new (left, log.shows.exited, stop.ends) stop
-  ended-RunsTo turns SinkFault core_new space_new f_new new left stop = ends-here turns SinkFault core_new space_new f_new new (left, log.shows.exited, stop.ends) stop
+  ended-RunsTo turns SinkFault core_new space_new f_new new left stop = ends-here turns SinkFault core_new space_new f_new new (left, log.shows.exited) stop
   ended-RunsTo turns NoMemory core_new space_new f_new new left stop = ends-here turns NoMemory core_new space_new f_new new (omega (arith, left)) stop
   ended-RunsTo turns (TurnsOver count) core_new space_new f_new new left stop = absurd stop.ends
 
@@ -307,7 +297,9 @@ module _ (p : Program) (old : Outside) (n : ℕ) (core : Core) (space : Space) (
         err_is = log.err_is;
         ends = (e, log.shows.exited, refl);
         called = log.store_log;
+        out_fault = None;
+        err_fault = None;
+        failed = (refl, refl);
         out_log = log.out_log;
         err_log = log.err_log;
-        cause = (log.out_steady, log.err_steady);
       }

@@ -227,8 +227,6 @@ done-GoesOn p s c sp f core space o moved =
       store_log = subst (λ n. StoreLog o.store (replicate n false) o.store) (sym moved.calls) (none-StoreLog o.store);
       out_log = none-SinkLog o.out;
       err_log = none-SinkLog o.err;
-      out_steady = refl;
-      err_steady = refl;
     }
 
 -- hart and memory are as before
@@ -244,15 +242,26 @@ trap-Stops p s c sp f shows cause pc core space o stepped_to at =
           ∙ (ap (λ st. end_of_step st s.pc) (stepped_to.0 files t) ∙ ap (λ a. TrapsAt cause a) (shows.pc ∙ (ap (λ k. k.pc) (sym stepped_to.1) ∙ sym at)));
       shows = same-Shows p s c sp f shows core space stepped_to.1 stepped_to.2;
       called = none-StoreLog o.store;
+      out_fault = None;
+      err_fault = None;
+      failed = (refl, refl);
       out_log = none-SinkLog o.out;
       err_log = none-SinkLog o.err;
-      cause = (refl, refl);
     }
 
 -- want of memory
 pub starved-Stops : (p : Program) (s : State) (core : Core) (space : Space) (f : Descriptors) (o : Outside) → Shows p core space f s → Stops p s NoMemory o core space f o
 starved-Stops p s core space f o shows =
-    record { ends = tt; shows = shows; called = none-StoreLog o.store; out_log = none-SinkLog o.out; err_log = none-SinkLog o.err; cause = (refl, refl) }
+    record {
+      ends = tt;
+      shows = shows;
+      called = none-StoreLog o.store;
+      out_fault = None;
+      err_fault = None;
+      failed = (refl, refl);
+      out_log = none-SinkLog o.out;
+      err_log = none-SinkLog o.err;
+    }
 
 -- an event that isn't treated apart leaves hart and memory
 pub other-Shows : (p : Program) (s : State) (c : Core) (sp : Space) (f : Descriptors) → Shows p c sp f s → (core : Core) (space : Space) (told : Event)

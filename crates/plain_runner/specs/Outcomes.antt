@@ -11,7 +11,7 @@ use Rattle.program_model.specs.Descriptors.{Descriptors}
 use Rattle.program_model.specs.Cache.{blocks_of}
 use Rattle.program_model.specs.Calls.{opened, after_read, bytes_read}
 use Rattle.program_model.specs.PlainRun.{size_in}
-use Rattle.world_io.specs.Outside.{StoreState, SinkState, Rose}
+use Rattle.world_io.specs.Outside.{StoreState, SinkState}
 use Rattle.world_io.specs.Logs.{StoreLog, SinkLog}
 use Rattle.hart_step.specs.Core.{Core}
 use Rattle.plain_runner.specs.Turns.{piece}
@@ -46,11 +46,11 @@ ReadComesTo d spot a old core space f (Some StoreFault) new core_new space_new f
     (more : ℕ) × (more < length (blocks_of spot)) × StoreLog old (true ∷ replicate more false) new × (core_new ≡ core) × (space_new ≡ space) × (f_new ≡ f)
 ReadComesTo d spot a old core space f (Some other) new core_new space_new f_new = ⊥
 
--- the outcome of a put of these bytes: the hart is answered with the count that was taken, or the put failed and the hart is as before
+-- the outcome of a put of these bytes, the only one: the hart is answered with the count that was taken, or the put failed and the hart is as before
 abbrev pub PutComesTo : List ℕ → SinkState → Core → Option Ending → Core → SinkState → Type 0
 PutComesTo bytes old core None core_new new =
-    (k : ℕ) × (k ≤ length bytes) × (core_new ≡ answered_core core k) × SinkLog old (piece bytes k ∷ []) new × (new.faults ≡ old.faults)
-PutComesTo bytes old core (Some SinkFault) core_new new = SinkLog old [] new × Rose old.faults new.faults × (core_new ≡ core)
+    (k : ℕ) × (k ≤ length bytes) × (core_new ≡ answered_core core k) × SinkLog old (piece bytes k ∷ []) None new
+PutComesTo bytes old core (Some SinkFault) core_new new = SinkLog old [] (Some bytes) new × (core_new ≡ core)
 PutComesTo bytes old core (Some other) core_new new = ⊥
 
 -- the outcome of an offer, to standard output (true) or to standard error (false)

@@ -1,8 +1,9 @@
 -- A plain run over a store and two sinks: how far it came, and how it ended (this project's own).
-use Rattle.std.specs.Prelude.{◌≡◌, ◌⊎◌, ℕ, ◌+◌, ◌<◌, ◌≤◌, Bool, true, false, List, ◌∷◌, All, length, map, replicate, slice_get, Some, None, unwrap_or}
+use Rattle.std.specs.Prelude.{◌≡◌, ◌⊎◌, ℕ, ◌+◌, ◌<◌, ◌≤◌, Bool, true, false, List, ◌∷◌, All, length, map, replicate, slice_get, Option, Some, None, unwrap_or}
 use Rattle.spec_base.specs.Files.{Files, Name}
 use Rattle.spec_base.specs.declared.spot.ReadSpot.{ReadSpot}
 use Rattle.spec_base.specs.declared.machine.View.TheVariants.{Plain}
+use Rattle.rv_model.specs.Memory.{bytes_at}
 use Rattle.rv_model.specs.Space.{Space}
 use Rattle.program_model.specs.Descriptors.{Descriptors}
 use Rattle.program_model.specs.Calls.{CallPlan, Look, Read, Write}
@@ -60,9 +61,9 @@ pub record IsCall (p : Program) (s : State) (plan : CallPlan) : Type 0 where
 abbrev pub IsFileCall : Program → State → Type 0
 IsFileCall p s = ((name : Name) × IsCall p s (Look name)) ⊎ ((d : ℕ) × (spot : ReadSpot) × (a : ℕ) × IsCall p s (Read d spot a))
 
--- the next instruction puts
-abbrev pub IsPut : Program → State → Type 0
-IsPut p s = (to_out : Bool) × (a : ℕ) × (n : ℕ) × IsCall p s (Write to_out a n)
+-- the next instruction puts these bytes, to standard output (true) or to standard error (false)
+abbrev pub IsPut : Program → State → Bool → List ℕ → Type 0
+IsPut p s to_out bytes = (a : ℕ) × (n : ℕ) × IsCall p s (Write to_out a n) × (bytes ≡ bytes_at s.memory a n)
 
 -- ---- ends
 
@@ -72,7 +73,7 @@ EndsBy p turns n s (Exited code) = (n ≤ turns) × (s.exited ≡ Some code)
 EndsBy p turns n s (Trapped cause pc) = (n < turns) × (s.exited ≡ None) × ((files : Files) (t : Taken) → end_of p files t s ≡ TrapsAt cause pc)
 EndsBy p turns n s (TurnsOver count) = (n ≡ turns) × (s.exited ≡ None) × (count ≡ turns)
 EndsBy p turns n s StoreFault = (n < turns) × (s.exited ≡ None) × IsFileCall p s
-EndsBy p turns n s SinkFault = (n < turns) × (s.exited ≡ None) × IsPut p s
+EndsBy p turns n s SinkFault = (n < turns) × (s.exited ≡ None)
 EndsBy p turns n s NoMemory = n ≤ turns
 
 -- the calls on the store, newest first: those of the completed instructions, none of which failed; at a store fault the next instruction made some more, of which the last failed and the count rose
@@ -80,14 +81,13 @@ abbrev pub CallsStore : Program → State → Ending → ℕ → StoreState → 
 CallsStore p s StoreFault calls old new = (more : ℕ) × (more < next_calls p s) × StoreLog old (true ∷ replicate (calls + more) false) new × Rose old.faults new.faults
 CallsStore p s other calls old new = StoreLog old (replicate calls false) new
 
--- a sink fault has its cause, and no other ending comes where a put failed
-abbrev pub HasSinkCause : SinkState → SinkState → Ending → SinkState → SinkState → Type 0
-HasSinkCause out err SinkFault out_new err_new = Rose out.faults out_new.faults ⊎ Rose err.faults err_new.faults
-HasSinkCause out err (Exited code) out_new err_new = (out_new.faults ≡ out.faults) × (err_new.faults ≡ err.faults)
-HasSinkCause out err (Trapped cause pc) out_new err_new = (out_new.faults ≡ out.faults) × (err_new.faults ≡ err.faults)
-HasSinkCause out err (TurnsOver count) out_new err_new = (out_new.faults ≡ out.faults) × (err_new.faults ≡ err.faults)
-HasSinkCause out err StoreFault out_new err_new = (out_new.faults ≡ out.faults) × (err_new.faults ≡ err.faults)
-HasSinkCause out err NoMemory out_new err_new = (out_new.faults ≡ out.faults) × (err_new.faults ≡ err.faults)
+-- the puts that failed, on standard output and on standard error: at a sink fault that of the next instruction, which is the last of all; else none
+abbrev pub FailedPuts : Program → State → Ending → Option (List ℕ) → Option (List ℕ) → Type 0
+FailedPuts p s SinkFault (Some bytes) None = IsPut p s true bytes
+FailedPuts p s SinkFault None (Some bytes) = IsPut p s false bytes
+FailedPuts p s SinkFault None None = ⊥
+FailedPuts p s SinkFault (Some bytes) (Some others) = ⊥
+FailedPuts p s other out err = (out ≡ None) × (err ≡ None)
 
 -- ---- the run
 
@@ -96,7 +96,7 @@ pub record Reaches (p : Program) (files : Files) (t : Taken) (n : ℕ) (s : Stat
   pub state : plain_state p files t n ≡ Some s
   pub calls : calls_until p files t n ≡ k
 
--- the run of a program ended so, left hart, memory and descriptors in the last state, and took the outside from old to new. The plain program comes to that state over all files of which the store's answers are true, and over those that the store tells they are; what it put is what the sinks took
+-- the run of a program ended so, left hart, memory and descriptors in the last state, and took the outside from old to new. The plain program comes to that state over all files of which the store's answers are true, and over those that the store tells they are; what it put is what the sinks took, and at most one put failed
 pub record RunsTo (p : Program) (turns : ℕ) (old : Outside) (ending : Ending) (core : Core) (space : Space) (f : Descriptors) (new : Outside) : Type 0 where
   pub n : ℕ
   pub state : State
@@ -111,6 +111,8 @@ pub record RunsTo (p : Program) (turns : ℕ) (old : Outside) (ending : Ending) 
   pub err_is : state.err ≡ output_of errs
   pub ends : EndsBy p turns n state ending
   pub called : CallsStore p state ending calls old.store new.store
-  pub out_log : SinkLog old.out outs new.out
-  pub err_log : SinkLog old.err errs new.err
-  pub cause : HasSinkCause old.out old.err ending new.out new.err
+  pub out_fault : Option (List ℕ)
+  pub err_fault : Option (List ℕ)
+  pub failed : FailedPuts p state ending out_fault err_fault
+  pub out_log : SinkLog old.out outs out_fault new.out
+  pub err_log : SinkLog old.err errs err_fault new.err

@@ -11,7 +11,7 @@ use Rattle.plain_runner.specs.declared.ending.Ending.{Ending}
 use Rattle.plain_runner.specs.declared.ending.Ending.TheVariants.{Exited, Trapped, TurnsOver, StoreFault, SinkFault, NoMemory}
 use Rattle.plain_runner.specs.StoreCalls.{calls_of, next_calls}
 use Rattle.plain_runner.specs.Answers.{Answer, Answers}
-use Rattle.plain_runner.specs.Runs.{Outside, Shows, HasSinkCause, IsFileCall, IsPut, output_of}
+use Rattle.plain_runner.specs.Runs.{Outside, Shows, FailedPuts, IsFileCall, output_of}
 
 -- the next instruction performs the call that the registers ask for
 pub record IsAtCall (p : Program) (s : State) : Type 0 where
@@ -48,17 +48,15 @@ pub record GoesOn (p : Program) (s : State) (old : Outside) (core : Core) (space
   pub told : (files : Files) → old.store.files ≡ Some files → All (Answers files) answers
   pub shows : Shows p core space f next
   pub store_log : StoreLog old.store (replicate (next_calls p s) false) new.store
-  pub out_log : SinkLog old.out outs new.out
-  pub err_log : SinkLog old.err errs new.err
-  pub out_steady : new.out.faults ≡ old.out.faults
-  pub err_steady : new.err.faults ≡ old.err.faults
+  pub out_log : SinkLog old.out outs None new.out
+  pub err_log : SinkLog old.err errs None new.err
 
 -- how a turn ends the run: an exit completes, and nothing else does
 abbrev pub EndsIn : Program → State → Ending → Type 0
 EndsIn p s (Exited code) = ((files : Files) (t : Taken) → next_state p files t s ≡ Some (record s { exited = Some code })) × (next_calls p s ≡ 0)
 EndsIn p s (Trapped cause pc) = (files : Files) (t : Taken) → end_of p files t s ≡ TrapsAt cause pc
 EndsIn p s StoreFault = IsFileCall p s
-EndsIn p s SinkFault = IsPut p s
+EndsIn p s SinkFault = Unit {0}
 EndsIn p s NoMemory = Unit {0}
 EndsIn p s (TurnsOver count) = ⊥
 
@@ -72,9 +70,11 @@ pub record Stops (p : Program) (s : State) (ending : Ending) (old : Outside) (co
   pub ends : EndsIn p s ending
   pub shows : Shows p core space f s
   pub called : LastCalls p s ending old.store new.store
-  pub out_log : SinkLog old.out [] new.out
-  pub err_log : SinkLog old.err [] new.err
-  pub cause : HasSinkCause old.out old.err ending new.out new.err
+  pub out_fault : Option (List ℕ)
+  pub err_fault : Option (List ℕ)
+  pub failed : FailedPuts p s ending out_fault err_fault
+  pub out_log : SinkLog old.out [] out_fault new.out
+  pub err_log : SinkLog old.err [] err_fault new.err
 
 -- one turn, or one call
 abbrev pub TurnsTo : Program → State → Outside → Option Ending → Core → Space → Descriptors → Outside → Type 0
