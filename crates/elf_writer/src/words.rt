@@ -8,6 +8,7 @@ ghost use Rattle.elf_writer.specs.Streams.{Gives};
 use crate::buffer::Staging;
 use crate::source::CodeSource;
 use crate::stream::{SinkFault, give};
+use byteorder::{ByteOrder, LittleEndian};
 use world_io::Sink;
 
 /// Gives a word.
@@ -18,19 +19,18 @@ fn give_word<S: Staging, O: Sink>(staging: &mut S, sink: &mut O, word: u32) -> R
     give(staging, sink, &word.to_le_bytes())
 }
 
-/// Gives the words of a block.
+/// Gives the words of a block, all at once.
 fn give_block<S: Staging, O: Sink>(
     staging: &mut S,
     sink: &mut O,
-    words: &[u32],
+    words: &[u32; 16],
 ) -> Result<(), SinkFault>
     ensures gives { Gives (S.size staging.old) (S.held staging.old) (O.state sink.old) (word_bytes words.now) (is_ok result) (S.held staging.new) (O.state sink.new) }
     ensures size { S.size staging.new ≡ S.size staging.old }
 {
-    for word in words {
-        give_word(staging, sink, *word)?;
-    }
-    Ok(())
+    let mut bytes = [0; 64];
+    LittleEndian::write_u32_into(words, &mut bytes);
+    give(staging, sink, &bytes)
 }
 
 /// Gives the words of the patched text.
