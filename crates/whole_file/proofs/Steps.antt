@@ -87,18 +87,18 @@ too_long-ReadsWhole a b name size log wrong = record {
     by (Some f) h = (h.0, h.1, (let same = h.2 in rw same wrong))
 
 -- want of memory
-pub starved-ReadsWhole : (a b : StoreState) (name : List ℕ) (size block : ℕ) (bytes : List ℕ) → ReadLog a name size block bytes b
+pub starved-ReadsWhole : (a b : StoreState) (name : List ℕ) (size : ℕ) → ReadLog a name size 0 [] b → size ≤ file_limit
     → ReadsWhole a name (Err NoMemory) b
-starved-ReadsWhole a b name size block bytes log = record {
-  log = replicate (block + 1) false;
+starved-ReadsWhole a b name size log sized = record {
+  log = false ∷ [];
   went = log.went;
-  calls = (block, refl);
-  told = by a.files;
+  calls = refl;
+  told = by a.files log.file;
 }
   where
-    by : (o : Option Files) → IfSome o (λ files. Unit {0})
-    by None = tt
-    by (Some f) = tt
+    by : (o : Option Files) → HasRead o name size 0 [] → IfSome o (λ files. SaysOf (files name) (Err NoMemory) (false ∷ []))
+    by None h = tt
+    by (Some f) h = (h.0, h.1, (let same = h.2 in rw same sized))
 
 one_more : (n : ℕ) → false ∷ replicate n false ≡ replicate (n + 1) false
 one_more n = rw (add-one n) refl

@@ -15,13 +15,13 @@ mapped f (Err e) = Err e
 abbrev pub block_count : ℕ → ℕ
 block_count n = (n + 4095) / 4096
 
--- the calls that were made, newest first: a look, and then a fetch for each block, up to one that failed
+-- the calls that were made, newest first: a look, and then a fetch for each block, up to one that failed. There is none behind a want of memory
 abbrev pub Calls : Result (List ℕ) ReadFault → List Bool → Type 0
 Calls (Ok bytes) log = (k : ℕ) × (log ≡ replicate (k + 1) false)
 Calls (Err Absent) log = log ≡ false ∷ []
 Calls (Err TooLong) log = log ≡ false ∷ []
 Calls (Err Failed) log = (k : ℕ) × (log ≡ true ∷ replicate k false)
-Calls (Err NoMemory) log = (k : ℕ) × (log ≡ replicate (k + 1) false)
+Calls (Err NoMemory) log = log ≡ false ∷ []
 
 -- what an answer says of a file that is told
 abbrev pub SaysOf : Option (List ℕ) → Result (List ℕ) ReadFault → List Bool → Type 0
@@ -29,7 +29,7 @@ SaysOf file (Ok bytes) log = (file ≡ Some bytes) × (length bytes ≤ file_lim
 SaysOf file (Err Absent) log = file ≡ None
 SaysOf file (Err TooLong) log = (bytes : List ℕ) × (file ≡ Some bytes) × (file_limit < length bytes)
 SaysOf file (Err Failed) log = (log ≡ true ∷ []) ⊎ ((bytes : List ℕ) × (file ≡ Some bytes) × (length bytes ≤ file_limit) × (length log ≤ block_count (length bytes) + 1))
-SaysOf file (Err NoMemory) log = Unit {0}
+SaysOf file (Err NoMemory) log = (bytes : List ℕ) × (file ≡ Some bytes) × (length bytes ≤ file_limit)
 
 -- the reading of a file took the store from old to new
 pub record ReadsWhole (old : StoreState) (name : List ℕ) (answer : Result (List ℕ) ReadFault) (new : StoreState) : Type 0 where

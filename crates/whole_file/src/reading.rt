@@ -19,12 +19,13 @@ pub enum ReadFault {
     TooLong,
     /// The look or a fetch failed.
     Failed,
-    /// An allocation was refused.
+    /// An allocation was refused. None of the file was fetched.
     NoMemory,
 }
 
-/// The bytes of the file: looks for it, and fetches its blocks in ascending order. The contract names
-/// each call on the store. What the bytes are is known where the store tells its files.
+/// The bytes of the file: looks for it, takes memory for its blocks, and fetches them in ascending
+/// order. The contract names each call on the store. What the bytes are is known where the store
+/// tells its files.
 pub fn read_whole<D: Store>(alloc: Global, name: &Name, store: &mut D) -> Result<Vec<u8>, ReadFault>
     ensures { ReadsWhole (D.state store.old) name.now (mapped (λ v. v.items) result) (D.state store.new) }
 {
@@ -36,16 +37,15 @@ pub fn read_whole<D: Store>(alloc: Global, name: &Name, store: &mut D) -> Result
     if size > FILE_LIMIT {
         return Err(ReadFault::TooLong);
     }
-    let Ok(mut bytes) = Vec::with_capacity(alloc, size as usize) else {
+    let blocks = (size + 4095) / 4096;
+    let Ok(mut bytes) = Vec::with_capacity(alloc, BLOCK * blocks as usize) else {
         return Err(ReadFault::NoMemory);
     };
     let mut staging = [0u8; BLOCK];
-    for block in 0..(size + 4095) / 4096 {
+    for block in 0..blocks {
         match store.fetch(name, block, &mut staging) {
             Fetch::Got(count) => {
-                if bytes.extend_from_slice(&staging[..count]).is_err() {
-                    return Err(ReadFault::NoMemory);
-                }
+                let _ = bytes.extend_from_slice(&staging[..count]);
             }
             Fetch::Failed => return Err(ReadFault::Failed),
         }
