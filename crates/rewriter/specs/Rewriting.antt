@@ -2,7 +2,7 @@
 use Rattle.std.specs.Prelude.{◌≡◌, ℕ, true, false, List, length, Result, Ok, Err}
 use Rattle.spec_base.specs.declared.layout.Version.{Version}
 use Rattle.world_io.specs.Outside.{SinkState}
-use Rattle.world_io.specs.Puts.{Fits, room_left}
+use Rattle.world_io.specs.Puts.{Fits}
 use Rattle.world_io.specs.Texts.{PutsText}
 use Rattle.elf_image.specs.declared.image.Image.{Image}
 use Rattle.elf_image.specs.declared.image.ReadFault.{ReadFault}
@@ -38,13 +38,12 @@ RewritesAs bytes regions version (Err read.NoMemory) = IsAccepted bytes version
 
 -- ---- to a sink
 
--- a file of n bytes was put whole, and lowered a sure room by n where it was within it
+-- a file of n bytes was put whole
 pub record PutsWhole (old : SinkState) (file : List ℕ) (n : ℕ) (new : SinkState) : Type 0 where
   pub puts : PutsText old file true new
   pub count : n ≡ length file
-  pub room : Fits old.room (length file) → new.room ≡ room_left old.room (length file)
 
--- a put failed before the file's end, which isn't so within the sure room
+-- a put failed before the file's end, and was the last; that isn't so within the sure room
 pub record PutsPart (old : SinkState) (file : List ℕ) (new : SinkState) : Type 0 where
   pub puts : PutsText old file false new
   pub unsure : ¬ Fits old.room (length file)

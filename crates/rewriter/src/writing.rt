@@ -20,7 +20,8 @@ pub enum Rewritten {
     Done(u64),
     /// The profile doesn't accept the file, and nothing was put.
     Refused(Refusal),
-    /// A put failed, and the sink counted it. A part from the front of the file was put.
+    /// A put failed, and the sink counted it. A part from the front of the file was put, and nothing
+    /// more was offered.
     SinkFault,
     /// The file is accepted, memory was wanting, and nothing was put.
     NoMemory,
