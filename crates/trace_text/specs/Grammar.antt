@@ -10,6 +10,7 @@ use Rattle.spec_base.specs.declared.park.Park.{Park}
 use Rattle.spec_base.specs.declared.park.Park.TheVariants as parks
 use Rattle.spec_base.specs.declared.spot.ReadSpot.{ReadSpot}
 use Rattle.spec_base.specs.declared.spot.BlockSpot.{BlockSpot}
+use Rattle.trace_text.specs.Line.{park_name, trap_name}
 use Rattle.trace_text.specs.declared.keyword.Keyword.{Keyword}
 use Rattle.trace_text.specs.declared.keyword.Keyword.TheVariants as keywords
 use Rattle.trace_text.specs.declared.trace_line.TraceBody.{TraceBody}
@@ -120,21 +121,21 @@ text_count_in word = if is_hex word && nat_le 2 (length word) then Some (length 
 
 abbrev pub park_in : List ℕ → Option Park
 park_in word =
-    if bytes_eq word (codes "Exit") then Some parks.Exit
-    else if bytes_eq word (codes "Fault") then Some parks.Fault
-    else if bytes_eq word (codes "Regions") then Some parks.Regions
-    else if bytes_eq word (codes "LogFull") then Some parks.LogFull
-    else if bytes_eq word (codes "Store") then Some parks.Store
+    if bytes_eq word (park_name parks.Exit) then Some parks.Exit
+    else if bytes_eq word (park_name parks.Fault) then Some parks.Fault
+    else if bytes_eq word (park_name parks.Regions) then Some parks.Regions
+    else if bytes_eq word (park_name parks.LogFull) then Some parks.LogFull
+    else if bytes_eq word (park_name parks.Store) then Some parks.Store
     else None
 
 abbrev pub trap_in : List ℕ → Option Trap
 trap_in word =
-    if bytes_eq word (codes "Illegal") then Some traps.Illegal
-    else if bytes_eq word (codes "FetchOut") then Some traps.FetchOut
-    else if bytes_eq word (codes "Misaligned") then Some traps.Misaligned
-    else if bytes_eq word (codes "LoadOut") then Some traps.LoadOut
-    else if bytes_eq word (codes "StoreOut") then Some traps.StoreOut
-    else if bytes_eq word (codes "Break") then Some traps.Break
+    if bytes_eq word (trap_name traps.Illegal) then Some traps.Illegal
+    else if bytes_eq word (trap_name traps.FetchOut) then Some traps.FetchOut
+    else if bytes_eq word (trap_name traps.Misaligned) then Some traps.Misaligned
+    else if bytes_eq word (trap_name traps.LoadOut) then Some traps.LoadOut
+    else if bytes_eq word (trap_name traps.StoreOut) then Some traps.StoreOut
+    else if bytes_eq word (trap_name traps.Break) then Some traps.Break
     else None
 
 abbrev pub keyword_in : List ℕ → Option Keyword

@@ -69,17 +69,17 @@ pub fn keyword_named(word: &[u8]) -> Option<Keyword>
 pub fn trap_named(word: &[u8]) -> Option<Trap>
     ensures { result ≡ trap_in word.now }
 {
-    if word == b"Illegal".as_slice() {
+    if word == trap_text(Trap::Illegal) {
         Some(Trap::Illegal)
-    } else if word == b"FetchOut".as_slice() {
+    } else if word == trap_text(Trap::FetchOut) {
         Some(Trap::FetchOut)
-    } else if word == b"Misaligned".as_slice() {
+    } else if word == trap_text(Trap::Misaligned) {
         Some(Trap::Misaligned)
-    } else if word == b"LoadOut".as_slice() {
+    } else if word == trap_text(Trap::LoadOut) {
         Some(Trap::LoadOut)
-    } else if word == b"StoreOut".as_slice() {
+    } else if word == trap_text(Trap::StoreOut) {
         Some(Trap::StoreOut)
-    } else if word == b"Break".as_slice() {
+    } else if word == trap_text(Trap::Break) {
         Some(Trap::Break)
     } else {
         None
@@ -90,15 +90,15 @@ pub fn trap_named(word: &[u8]) -> Option<Trap>
 pub fn park_named(word: &[u8]) -> Option<Park>
     ensures { result ≡ park_in word.now }
 {
-    if word == b"Exit".as_slice() {
+    if word == park_text(Park::Exit) {
         Some(Park::Exit)
-    } else if word == b"Fault".as_slice() {
+    } else if word == park_text(Park::Fault) {
         Some(Park::Fault)
-    } else if word == b"Regions".as_slice() {
+    } else if word == park_text(Park::Regions) {
         Some(Park::Regions)
-    } else if word == b"LogFull".as_slice() {
+    } else if word == park_text(Park::LogFull) {
         Some(Park::LogFull)
-    } else if word == b"Store".as_slice() {
+    } else if word == park_text(Park::Store) {
         Some(Park::Store)
     } else {
         None

@@ -11,6 +11,7 @@ mod trace_line;
 mod words;
 mod writing;
 
+pub use keyword::trap_text;
 pub use laws::{
     note_lines_are_read, only_printed_is_read, turns_lines_are_read, use_lines_are_read,
 };
