@@ -5,3 +5,4 @@ pub mod SectionLemmas
 pub mod TestLemmas
 pub mod Accepted
 pub mod ImageLemmas
+pub mod RecoveryLemmas
