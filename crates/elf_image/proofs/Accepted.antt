@@ -290,7 +290,7 @@ IsImage-from_none bytes version none =
     built bytes version (image_of bytes) (text_span bytes (code_of (segments_of bytes))) (omega (arith, table.few_bytes))
     (omega (arith, few-segments (file_header bytes).e_phoff (file_header bytes).e_phnum bytes, few)) apart.0 apart.1 text.0 text.1 refl refl refl
 
-judged-ok : (r : Option Refusal) (image other : Image) → judged r image ≡ Ok other → (r ≡ None) × (image ≡ other)
+pub judged-ok : (r : Option Refusal) (image other : Image) → judged r image ≡ Ok other → (r ≡ None) × (image ≡ other)
 judged-ok None image other h = (refl, cc)
 judged-ok (Some e) image other h = absurd (cc)
 

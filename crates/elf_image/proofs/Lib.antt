@@ -6,3 +6,4 @@ pub mod TestLemmas
 pub mod Accepted
 pub mod ImageLemmas
 pub mod RecoveryLemmas
+pub mod Passed

@@ -1,5 +1,5 @@
 -- What follows where neither the record nor the image of a rewritten file is damaged.
-use Rattle.std.proofs.Common.{◌≡◌, ℕ, ◌+◌, ◌-◌, ◌*◌, ◌^◌, ◌==◌, ◌<◌, ◌≤◌, ◌&&◌, ◌||◌, Bool, true, false, not, nat_lt, nat_le, List, length, count_by, Option, Some, None, refl, sym, ap, subst, arith, ◌∙◌}
+use Rattle.std.proofs.Common.{◌≡◌, ℕ, ◌+◌, ◌-◌, ◌*◌, ◌^◌, ◌==◌, ◌<◌, ◌≤◌, ◌&&◌, ◌||◌, Bool, true, false, not, nat_lt, nat_le, if◌then◌else◌, List, length, count_by, Option, Some, None, Ok, refl, sym, ap, subst, arith, ◌∙◌}
 use Rattle.std.specs.List.{list_any}
 use Rattle.std.proofs.lemmas.Bool.Decides.{nat_tests}
 use Rattle.spec_base.specs.declared.layout.Layout.{Layout}
@@ -16,7 +16,7 @@ use Rattle.elf_image.specs.Sections.{is_text_of, is_entry_of}
 use Rattle.elf_image.specs.Profile.{code_of, rounded_up}
 use Rattle.elf_image.specs.Scan.{IsScan}
 use Rattle.elf_image.specs.Image.{IsImage, opened_limit}
-use Rattle.elf_image.specs.Recovery.{IsFront, IsRecovered, holds_entries, holds_record, holds_front, holds_image, shows_image, record_entry, recorded_layout, carried_entries, carried_segments, carried_reach, recorded_text, carried_image, carried, front_damage}
+use Rattle.elf_image.specs.Recovery.{IsFront, IsRecovered, RecoversAs, holds_entries, holds_record, holds_front, holds_image, shows_image, record_entry, recorded_layout, carried_entries, carried_segments, carried_reach, recorded_text, carried_image, carried, front_damage}
 use Rattle.elf_image.specs.declared.header.FileHeader.{FileHeader}
 use Rattle.elf_image.specs.declared.scan.Scan.{Scan}
 use Rattle.elf_image.specs.declared.sections.Span.{Span}
@@ -154,3 +154,22 @@ IsRecovered-is bytes image layout front h one two = record {
   some_regions = subst (λ (l : Layout). 1 ≤ l.regions) (sym two) front.some_regions;
   few_regions = subst (λ (l : Layout). l.regions ≤ 65_536) (sym two) front.few_regions;
 }
+
+-- ---- what is recovered
+
+none-front : (front image : Bool) → (if not front then Some part.Record else if not image then Some part.Image else None) ≡ None → (front ≡ true) × (image ≡ true)
+none-front true true h = (refl, refl)
+none-front true false h = absurd (cc)
+none-front false image h = absurd (cc)
+
+both-hold : (bytes : List ℕ) → front_damage bytes ≡ None → (holds_front bytes ≡ true) × (holds_image bytes ≡ true)
+unfolding front_damage
+both-hold bytes h = none-front (holds_front bytes) (holds_image bytes) h
+
+-- of what a call recovers
+pub IsRecovered-from : (bytes : List ℕ) (r : Recovered) → RecoversAs bytes (Ok r) → IsRecovered bytes r
+unfolding carried
+IsRecovered-from bytes r h =
+    let both = both-hold bytes h.0 in
+    subst (λ (k : Recovered). IsRecovered bytes k) (sym h.1)
+    (IsRecovered-is bytes (carried_image bytes) (recorded_layout bytes) (IsFront-from bytes both.0) both.1 refl refl)
