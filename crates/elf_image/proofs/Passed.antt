@@ -1,5 +1,5 @@
 -- The tests that an accepted file has passed, one by one.
-use Rattle.std.proofs.Common.{◌≡◌, ℕ, zero, suc, ◌+◌, ◌*◌, ◌/◌, ◌%◌, ◌^◌, ◌==◌, ◌<◌, ◌≤◌, ◌&&◌, Bool, true, false, not, cond, List, [], ◌∷◌, ◌++◌, length, count_by, All, get_or, Option, Some, None, Ok, inl, inr, ◌⊎◌, refl, sym, subst, arith, lit<}
+use Rattle.std.proofs.Common.{◌≡◌, ℕ, zero, suc, ◌+◌, ◌-◌, ◌*◌, ◌/◌, ◌%◌, ◌^◌, ◌==◌, ◌<◌, ◌≤◌, ◌&&◌, Bool, true, false, not, cond, List, [], ◌∷◌, ◌++◌, length, count_by, All, get_or, Option, Some, None, Ok, inl, inr, ◌⊎◌, refl, sym, subst, arith, lit<}
 use Rattle.std.proofs.lemmas.Bool.{cases_lt}
 use Rattle.std.proofs.lemmas.List.{get_or_past}
 use Rattle.std.proofs.lemmas.List.Elements.{All-nil, All-cons, All-append, All-get_or}
@@ -14,6 +14,7 @@ use Rattle.elf_image.specs.Fields.{word_at}
 use Rattle.elf_image.specs.Header.{file_header, header_refusal, has_plain_flags}
 use Rattle.elf_image.specs.Segments.{entry_at, first_entries, entries_refusal, is_loaded, segment_of, segments_in, piece, is_code, are_misplaced}
 use Rattle.elf_image.specs.Sections.{text_span, text_refusal, is_text_of, is_entry_of}
+use Rattle.elf_image.specs.Image.{words_at, words_in, text_words}
 use Rattle.elf_image.specs.Profile.{segments_of, code_of, first_refusal, image_of, profile}
 use Rattle.elf_image.proofs.TestLemmas.{past, otherwise-none, not-false}
 use Rattle.elf_image.proofs.SegmentLemmas.{segments_in-more}
@@ -82,6 +83,20 @@ pub word-below : (offset : ℕ) (bytes : List ℕ) → All (λ b. b < 256) bytes
 word-below offset bytes h =
     let b = byte-below bytes h in
     omega (arith, b offset, b (suc offset), b (suc (suc offset)), b (suc (suc (suc offset))))
+
+words-below : (n offset : ℕ) (bytes : List ℕ) → All (λ b. b < 256) bytes → All (λ word. word < 2 ^ 32) (words_at offset n bytes)
+words-below zero offset bytes h = All-nil (λ word. word < 2 ^ 32)
+words-below (suc n) offset bytes h =
+    All-cons (λ word. word < 2 ^ 32) (word_at offset bytes) (words_at (offset + 4) n bytes) (word-below offset bytes h) (words-below n (offset + 4) bytes h)
+
+-- the words of a text have 32 bits
+pub text-below : (bytes : List ℕ) (image : Image) → All (λ b. b < 256) bytes → All (λ word. word < 2 ^ 32) (text_words bytes image)
+unfolding text_words
+text-below bytes image h = by_code (code_of image.segments)
+  where
+    by_code : (code : Option Segment) → All (λ word. word < 2 ^ 32) (words_in code bytes image)
+    by_code None = All-nil (λ word. word < 2 ^ 32)
+    by_code (Some s) = words-below ((image.text_end - image.text_start) / 4) _ bytes h
 
 -- a segment that isn't empty, and whose flags have 32 bits
 pub record IsNamed (s : Segment) : Type 0 where

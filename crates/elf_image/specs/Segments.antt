@@ -10,6 +10,10 @@ use Rattle.elf_image.specs.declared.segments.Segment.{Segment}
 use Rattle.elf_image.specs.declared.refusal.Refusal.{Refusal}
 use Rattle.elf_image.specs.declared.refusal.Refusal.TheVariants.{Dynamic, Already, Segment as Misplaced, NoText}
 
+-- an entry of the table, as it is read
+abbrev pub Entry : Type 0
+Entry = ProgramHeader
+
 -- the fields of the entry at an offset
 abbrev pub program_header : ℕ → List ℕ → ProgramHeader
 program_header at bytes = record {
