@@ -1,5 +1,5 @@
 -- What follows where no reason to refuse a file holds.
-use Rattle.std.proofs.Common.{◌≡◌, ℕ, zero, suc, ◌+◌, ◌-◌, ◌%◌, ◌^◌, ◌==◌, ◌<◌, ◌≤◌, ◌&&◌, Bool, true, false, not, nat_lt, nat_le, cond, List, [], ◌∷◌, length, count_by, All, AllPairs, IsTrue, slice_index_or, Option, Some, None, Ok, Err, refl, sym, ap, subst, arith, ◌∙◌, length-append}
+use Rattle.std.proofs.Common.{◌≡◌, ℕ, zero, suc, ◌+◌, ◌*◌, ◌-◌, ◌%◌, ◌^◌, ◌==◌, ◌<◌, ◌≤◌, ◌&&◌, Bool, true, false, not, nat_lt, nat_le, cond, List, [], ◌∷◌, length, count_by, All, AllPairs, IsTrue, slice_index_or, Option, Some, None, Ok, Err, refl, sym, ap, subst, arith, ◌∙◌, length-append}
 use Rattle.std.specs.List.{list_any}
 use Rattle.std.proofs.lemmas.Bool.Decides.{nat_tests}
 use Rattle.spec_base.specs.declared.layout.Version.{Version}
@@ -18,7 +18,7 @@ use Rattle.elf_image.specs.Segments.{entry_at, first_entries, is_loaded, segment
 use Rattle.elf_image.specs.Sections.{holds_sections, text_span, is_text_of, is_entry_of, text_refusal}
 use Rattle.elf_image.specs.Scan.{IsScan, only, scan_answer, answered}
 use Rattle.elf_image.specs.Profile.{segments_of, code_of, first_refusal, rounded_up, image_of, judged, profile}
-use Rattle.elf_image.specs.Image.{IsPlaced, IsImage, IsOutline}
+use Rattle.elf_image.specs.Image.{IsPlaced, IsImage, IsOutline, opened_limit}
 use Rattle.elf_image.proofs.SegmentLemmas.{segments_in-more, count-none}
 use Rattle.elf_image.proofs.TestLemmas.{past, otherwise-none, not-false, and-true, or-false-both, none-at, find-passes, find-fails}
 
@@ -37,7 +37,7 @@ chain-is false false false None n h = rw (h refl) refl
 
 -- the scan of the whole table shows what its entries show
 pub scan_answer-is : (bytes : List ℕ) (version : Version) (scan : Scan)
-    → IsScan (image_limit version) bytes (file_header bytes).e_phnum scan
+    → IsScan (image_limit version) bytes (file_header bytes).e_phoff (file_header bytes).e_phnum scan
     → scan_answer scan ≡ answered (entries_refusal bytes version) (code_of (segments_of bytes))
 scan_answer-is bytes version scan h =
     rw (h.dynamic, h.rewritten, h.misplaced, h.code_segments, h.code)
@@ -90,13 +90,13 @@ few-pieces : (b : Bool) (s : Segment) → length (piece b s) ≤ 1
 few-pieces true s = omega arith
 few-pieces false s = omega arith
 
-few-segments : (n : ℕ) (bytes : List ℕ) → length (segments_in (first_entries n bytes)) ≤ n
-few-segments zero bytes = omega arith
-few-segments (suc n) bytes =
-    let es = first_entries n bytes in
-    let e = entry_at n bytes in
+pub few-segments : (start n : ℕ) (bytes : List ℕ) → length (segments_in (first_entries start n bytes)) ≤ n
+few-segments start zero bytes = omega arith
+few-segments start (suc n) bytes =
+    let es = first_entries start n bytes in
+    let e = entry_at start n bytes in
     rw (segments_in-more es e, length-append (segments_in es) (piece (is_loaded e) (segment_of e)))
-    (omega (arith, few-segments n bytes, few-pieces (is_loaded e) (segment_of e)))
+    (omega (arith, few-segments start n bytes, few-pieces (is_loaded e) (segment_of e)))
 
 is-positive : (n m k : ℕ) → (not (n == 0) && nat_lt m k) ≡ false → 0 < n → k ≤ m
 is-positive n m k h some = grind (arith, nat_tests)
@@ -151,7 +151,7 @@ pub record IsTextSpan (code : Option Segment) (t : Span) : Type 0 where
   pub before : t.end ≤ segment.address + segment.length
   pub few : t.end - t.start ≤ text_limit
 
-text-span : (code : Option Segment) (t : Span) → is_text_of code t ≡ true → IsTextSpan code t
+pub text-span : (code : Option Segment) (t : Span) → is_text_of code t ≡ true → IsTextSpan code t
 text-span None t h = absurd (cc)
 text-span (Some s) t h =
     let h5 = and-true _ _ h in
@@ -199,7 +199,7 @@ pub record IsEntry (t : Span) (entry : ℕ) : Type 0 where
   pub before : entry < t.end
   pub aligned : entry % 4 ≡ 0
 
-entry-of : (t : Span) (entry : ℕ) → is_entry_of t entry ≡ true → IsEntry t entry
+pub entry-of : (t : Span) (entry : ℕ) → is_entry_of t entry ≡ true → IsEntry t entry
 entry-of t entry h =
     let h2 = and-true _ _ h in
     let h1 = and-true _ _ h2.0 in
@@ -226,13 +226,13 @@ segments-apart bytes version none =
     (past _ Misplaced _ e2.1).0
 
 -- an image of these parts is one
-built : (bytes : List ℕ) (version : Version) (image : Image) (t : Span) → profile bytes version ≡ Ok image → HasTable bytes
+pub built : (bytes : List ℕ) (version : Version) (image : Image) (t : Span) → length bytes ≤ opened_limit
     → length image.segments ≤ 64
     → list_any (is_misplaced (image_limit version) (length bytes)) image.segments ≡ false → starts_early image.segments ≡ false
     → IsTextSpan (code_of image.segments) t → IsEntry t image.entry
     → t.start ≡ image.text_start → t.end ≡ image.text_end → image.break_start ≡ rounded_up (highest_end image.segments)
     → IsImage bytes version image
-built bytes version image t given table few apart ordered text entry start end break =
+built bytes version image t few_bytes few apart ordered text entry start end break =
     let code = text.segment in
     let code_placed : IsPlaced (image_limit version) bytes code =
     placed (image_limit version) bytes code
@@ -251,8 +251,7 @@ built bytes version image t given table few apart ordered text entry start end b
     let text_above : range_start ≤ image.text_start = omega (arith, above, after) in
     let text_below : image.text_end ≤ image_limit version = omega (arith, before, fits, below) in
     record {
-      given = given;
-      few_bytes = table.few_bytes;
+      few_bytes = few_bytes;
       few_segments = few;
       placed = all-placed (image_limit version) bytes image.segments apart;
       ascending = ascending image.segments ordered;
@@ -288,10 +287,10 @@ IsImage-from_none bytes version none =
     let apart = or-false-both (list_any (is_misplaced (image_limit version) (length bytes)) (segments_of bytes)) (starts_early (segments_of bytes))
     (segments-apart bytes version later.0) in
     let text = text-facts bytes (code_of (segments_of bytes)) later.1 in
-    built bytes version (image_of bytes) (text_span bytes (code_of (segments_of bytes))) (ap (λ r. judged r (image_of bytes)) none) table
-    (omega (arith, few-segments (file_header bytes).e_phnum bytes, few)) apart.0 apart.1 text.0 text.1 refl refl refl
+    built bytes version (image_of bytes) (text_span bytes (code_of (segments_of bytes))) (omega (arith, table.few_bytes))
+    (omega (arith, few-segments (file_header bytes).e_phoff (file_header bytes).e_phnum bytes, few)) apart.0 apart.1 text.0 text.1 refl refl refl
 
-judged-ok : (r : Option Refusal) (image other : Image) → judged r image ≡ Ok other → (r ≡ None) × (image ≡ other)
+pub judged-ok : (r : Option Refusal) (image other : Image) → judged r image ≡ Ok other → (r ≡ None) × (image ≡ other)
 judged-ok None image other h = (refl, cc)
 judged-ok (Some e) image other h = absurd (cc)
 
@@ -338,30 +337,30 @@ answered-ok None (Some t) s h = (refl, cc)
 answered-ok None None s h = absurd (cc)
 
 pub scan-refuses : (bytes : List ℕ) (version : Version) (scan : Scan) (e : Refusal)
-    → IsScan (image_limit version) bytes (file_header bytes).e_phnum scan → Err e ≡ scan_answer scan → entries_refusal bytes version ≡ Some e
+    → IsScan (image_limit version) bytes (file_header bytes).e_phoff (file_header bytes).e_phnum scan → Err e ≡ scan_answer scan → entries_refusal bytes version ≡ Some e
 scan-refuses bytes version scan e h is =
     answered-err (entries_refusal bytes version) (code_of (segments_of bytes)) e (has-code bytes version)
     (sym (scan_answer-is bytes version scan h) ∙ sym is)
 
 pub scan-finds : (bytes : List ℕ) (version : Version) (scan : Scan) (s : Segment)
-    → IsScan (image_limit version) bytes (file_header bytes).e_phnum scan → Ok s ≡ scan_answer scan
+    → IsScan (image_limit version) bytes (file_header bytes).e_phoff (file_header bytes).e_phnum scan → Ok s ≡ scan_answer scan
     → (entries_refusal bytes version ≡ None) × (code_of (segments_of bytes) ≡ Some s)
 scan-finds bytes version scan s h is =
     answered-ok (entries_refusal bytes version) (code_of (segments_of bytes)) s (sym (scan_answer-is bytes version scan h) ∙ sym is)
 
 -- where neither the header nor the entries give a reason, the text decides
 pub text-decides : (bytes : List ℕ) (version : Version) (scan : Scan) (s : Segment) (r : Option Refusal)
-    → header_refusal bytes ≡ None → IsScan (image_limit version) bytes (file_header bytes).e_phnum scan → Ok s ≡ scan_answer scan
+    → header_refusal bytes ≡ None → IsScan (image_limit version) bytes (file_header bytes).e_phoff (file_header bytes).e_phnum scan → Ok s ≡ scan_answer scan
     → text_refusal bytes (Some s) ≡ r → first_refusal bytes version ≡ r
 text-decides bytes version scan s r none h is given =
     let found = scan-finds bytes version scan s h is in
     refused-by_text bytes version r none found.0 (ap (text_refusal bytes) found.1 ∙ given)
 
-highest-fits : (version : Version) (n : ℕ) → rounded_up n ≤ image_limit version → n < 2 ^ 32
+pub highest-fits : (version : Version) (n : ℕ) → rounded_up n ≤ image_limit version → n < 2 ^ 32
 highest-fits One n h = omega arith
 highest-fits Two n h = omega arith
 
-limit-fits : (version : Version) (n : ℕ) → n ≤ image_limit version → n < 2 ^ 32
+pub limit-fits : (version : Version) (n : ℕ) → n ≤ image_limit version → n < 2 ^ 32
 limit-fits One n h = omega arith
 limit-fits Two n h = omega arith
 
@@ -377,14 +376,14 @@ Fits-from_none bytes version none =
 
 -- a scan by the numbers that the code has
 pub IsScan-at : (limit : ℕ) (bytes : List ℕ) (version : Version) (header : FileHeader) (scan : Scan) → limit ≡ image_limit version
-    → header ≡ file_header bytes → IsScan limit bytes header.e_phnum scan → IsScan (image_limit version) bytes (file_header bytes).e_phnum scan
+    → header ≡ file_header bytes → IsScan limit bytes header.e_phoff header.e_phnum scan → IsScan (image_limit version) bytes (file_header bytes).e_phoff (file_header bytes).e_phnum scan
 IsScan-at limit bytes version header scan same same_header h =
-    let count : header.e_phnum ≡ (file_header bytes).e_phnum = ap (λ x. x.e_phnum) same_header in
-    subst (λ (n : ℕ). IsScan (image_limit version) bytes n scan) count (subst (λ (l : ℕ). IsScan l bytes header.e_phnum scan) same h)
+    subst (λ (k : FileHeader). IsScan (image_limit version) bytes k.e_phoff k.e_phnum scan) same_header
+    (subst (λ (l : ℕ). IsScan l bytes header.e_phoff header.e_phnum scan) same h)
 
 -- the same by what a scan and the text showed
 pub Fits-from_scan : (bytes : List ℕ) (version : Version) (scan : Scan) (s : Segment) (t : Span)
-    → header_refusal bytes ≡ None → IsScan (image_limit version) bytes (file_header bytes).e_phnum scan → Ok s ≡ scan_answer scan
+    → header_refusal bytes ≡ None → IsScan (image_limit version) bytes (file_header bytes).e_phoff (file_header bytes).e_phnum scan → Ok s ≡ scan_answer scan
     → text_refusal bytes (Some s) ≡ None → t ≡ text_span bytes (Some s) → (t.end < 2 ^ 32) × (scan.reached < 2 ^ 32)
 Fits-from_scan bytes version scan s t none h is given span =
     let found = scan-finds bytes version scan s h is in
@@ -392,7 +391,7 @@ Fits-from_scan bytes version scan s t none h is given span =
     (rw (span, ← found.1) fits.0, rw h.reached fits.1)
 
 pub IsOutline-from_scan : (bytes : List ℕ) (version : Version) (scan : Scan) (s : Segment) (t : Span) (outline : Outline)
-    → HasTable bytes → header_refusal bytes ≡ None → IsScan (image_limit version) bytes (file_header bytes).e_phnum scan → Ok s ≡ scan_answer scan
+    → HasTable bytes → header_refusal bytes ≡ None → IsScan (image_limit version) bytes (file_header bytes).e_phoff (file_header bytes).e_phnum scan → Ok s ≡ scan_answer scan
     → text_refusal bytes (Some s) ≡ None → t ≡ text_span bytes (Some s)
     → outline.header ≡ file_header bytes → outline.text_start ≡ t.start → outline.text_end ≡ t.end → outline.break_start ≡ rounded_up scan.reached
     → IsOutline bytes version outline
@@ -429,3 +428,12 @@ pub profile-is : (bytes : List ℕ) (version : Version) (outline : Outline) (ima
     → profile bytes version ≡ Ok image
 profile-is bytes version outline image h entry flags segments start end break =
     rw (image-is bytes version outline image h entry flags segments start end break, h.accepted) refl
+
+-- the segments by the header that an outline keeps
+pub segments_of-header : (bytes : List ℕ) (header : FileHeader) (ss : List Segment) → header ≡ file_header bytes
+    → ss ≡ segments_in (first_entries header.e_phoff header.e_phnum bytes) → ss ≡ segments_of bytes
+segments_of-header bytes header ss same is = is ∙ ap (λ (h : FileHeader). segments_in (first_entries h.e_phoff h.e_phnum bytes)) same
+
+-- where its table ends
+pub inside-header : (bytes : List ℕ) (header : FileHeader) → header ≡ file_header bytes → HasTable bytes → header.e_phoff + 56 * header.e_phnum ≤ length bytes
+inside-header bytes header same h = rw same h.inside

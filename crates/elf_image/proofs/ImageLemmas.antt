@@ -9,11 +9,11 @@ use Rattle.elf_image.specs.Profile.{code_of}
 use Rattle.elf_image.specs.Image.{words_at, text_words}
 use Rattle.elf_image.proofs.SegmentLemmas.{segments_in-more}
 
-pub segments-next : (n : ℕ) (bytes : List ℕ) (ss next : List Segment) (e : ProgramHeader)
-    → ss ≡ segments_in (first_entries n bytes) → e ≡ entry_at n bytes → next ≡ ss ++ piece (is_loaded e) (segment_of e)
-    → next ≡ segments_in (first_entries (n + 1) bytes)
-segments-next n bytes ss next e so_far here is =
-    rw (add-one, segments_in-more (first_entries n bytes) (entry_at n bytes), is, so_far, here) refl
+pub segments-next : (start n : ℕ) (bytes : List ℕ) (ss next : List Segment) (e : ProgramHeader)
+    → ss ≡ segments_in (first_entries start n bytes) → e ≡ entry_at start n bytes → next ≡ ss ++ piece (is_loaded e) (segment_of e)
+    → next ≡ segments_in (first_entries start (n + 1) bytes)
+segments-next start n bytes ss next e so_far here is =
+    rw (add-one, segments_in-more (first_entries start n bytes) (entry_at start n bytes), is, so_far, here) refl
 
 words-more : (offset n : ℕ) (bytes : List ℕ) → words_at offset (suc n) bytes ≡ words_at offset n bytes ++ word_at (offset + 4 * n) bytes ∷ []
 words-more offset zero bytes = let same : offset + 4 * 0 ≡ offset = omega arith in rw same refl

@@ -5,3 +5,5 @@ pub mod SectionLemmas
 pub mod TestLemmas
 pub mod Accepted
 pub mod ImageLemmas
+pub mod RecoveryLemmas
+pub mod Passed

@@ -30,10 +30,13 @@ pub record IsTextOf (bytes : List ℕ) (image : Image) : Type 0 where
   pub start_aligned : image.text_start % 4 ≡ 0
   pub end_aligned : image.text_end % 4 ≡ 0
 
--- the image is the one that a file has under a version, with all that follows
+-- the most bytes of a file that is opened: 2 GiB, of a rewritten one
+abbrev pub opened_limit : ℕ
+opened_limit = 2_147_483_648
+
+-- what holds of the image of an accepted file, and of one that a rewritten file carries
 pub record IsImage (bytes : List ℕ) (version : Version) (image : Image) : Type 0 where
-  pub given : profile bytes version ≡ Ok image
-  pub few_bytes : length bytes ≤ file_limit
+  pub few_bytes : length bytes ≤ opened_limit
   pub few_segments : length image.segments ≤ 64
   pub placed : All (IsPlaced (image_limit version) bytes) image.segments
   pub ascending : AllPairs (λ s t. end_of s ≤ t.address) image.segments

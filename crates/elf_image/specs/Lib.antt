@@ -6,3 +6,4 @@ pub mod Scan
 pub mod Sections
 pub mod Profile
 pub mod Image
+pub mod Recovery

@@ -10,6 +10,10 @@ use Rattle.elf_image.specs.declared.sections.Span.{Span}
 use Rattle.elf_image.specs.declared.refusal.Refusal.{Refusal}
 use Rattle.elf_image.specs.declared.refusal.Refusal.TheVariants.{Sections, Text, Entry}
 
+-- where a text may stand
+abbrev pub TextSpan : Type 0
+TextSpan = Span
+
 -- the fields of the entry at an offset
 abbrev pub section_header : ℕ → List ℕ → SectionHeader
 section_header at bytes = record { sh_flags = xword_at (at + 8) bytes; sh_addr = xword_at (at + 16) bytes; sh_size = xword_at (at + 32) bytes }

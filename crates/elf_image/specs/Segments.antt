@@ -10,6 +10,10 @@ use Rattle.elf_image.specs.declared.segments.Segment.{Segment}
 use Rattle.elf_image.specs.declared.refusal.Refusal.{Refusal}
 use Rattle.elf_image.specs.declared.refusal.Refusal.TheVariants.{Dynamic, Already, Segment as Misplaced, NoText}
 
+-- an entry of the table, as it is read
+abbrev pub Entry : Type 0
+Entry = ProgramHeader
+
 -- the fields of the entry at an offset
 abbrev pub program_header : ℕ → List ℕ → ProgramHeader
 program_header at bytes = record {
@@ -21,18 +25,18 @@ program_header at bytes = record {
   p_memsz = xword_at (at + 40) bytes;
 }
 
--- entry n of the table
-abbrev pub entry_at : ℕ → List ℕ → ProgramHeader
-entry_at n bytes = program_header ((file_header bytes).e_phoff + 56 * n) bytes
+-- entry n of a table at an offset
+abbrev pub entry_at : ℕ → ℕ → List ℕ → ProgramHeader
+entry_at start n bytes = program_header (start + 56 * n) bytes
 
--- the first n entries, in order
-abbrev pub first_entries : ℕ → List ℕ → List ProgramHeader
-first_entries zero bytes = []
-first_entries (suc n) bytes = first_entries n bytes ++ entry_at n bytes ∷ []
+-- its first n entries, in order
+abbrev pub first_entries : ℕ → ℕ → List ℕ → List ProgramHeader
+first_entries start zero bytes = []
+first_entries start (suc n) bytes = first_entries start n bytes ++ entry_at start n bytes ∷ []
 
 -- the entries of a file
 abbrev pub entries : List ℕ → List ProgramHeader
-entries bytes = first_entries (file_header bytes).e_phnum bytes
+entries bytes = first_entries (file_header bytes).e_phoff (file_header bytes).e_phnum bytes
 
 -- PT_DYNAMIC or PT_INTERP: the file is linked dynamically
 abbrev pub is_dynamic : ProgramHeader → Bool
@@ -45,6 +49,9 @@ is_record e = e.p_type == 0x6053_4831
 -- PT_LOAD, and not empty; all other entries are passed over
 abbrev pub is_loaded : ProgramHeader → Bool
 is_loaded e = (e.p_type == 1) && not ((e.p_filesz == 0) && (e.p_memsz == 0))
+
+abbrev pub is_passed_over : ProgramHeader → Bool
+is_passed_over e = not (is_loaded e)
 
 abbrev pub segment_of : ProgramHeader → Segment
 segment_of e = record { address = e.p_vaddr; size = e.p_memsz; flags = e.p_flags; offset = e.p_offset; length = e.p_filesz }

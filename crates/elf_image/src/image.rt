@@ -2,9 +2,8 @@
 
 ghost use Rattle.std.specs.Prelude.{◌≡◌, ◌+◌, ◌*◌, ◌++◌, ◌≤◌, ◌<◌, ◌^◌, IfOk, IfErr, Option, Some, None, length};
 ghost use Rattle.std.specs.Option.{option_copied};
-ghost use Rattle.elf_image.specs.Header.{HasTable, file_header};
-ghost use Rattle.elf_image.specs.Segments.{is_loaded, piece, segment_of};
-ghost use Rattle.elf_image.specs.Profile.{Answers, code_of, first_refusal, profile, rounded_up, segments_of};
+ghost use Rattle.elf_image.specs.Segments.{first_entries, is_loaded, piece, segment_of, segments_in};
+ghost use Rattle.elf_image.specs.Profile.{Answers, code_of, first_refusal, profile, rounded_up};
 ghost use Rattle.elf_image.specs.Image.{IsImage, IsOutline, IsTextOf, text_words, words_at};
 
 use crate::fields::word_at;
@@ -71,7 +70,8 @@ fn judge(bytes: &[u8], version: Version) -> Result<Outline, Refusal>
     ensures refused { IfErr result (λ refusal. first_refusal bytes.now version ≡ Some refusal) }
 {
     let header = read_header(bytes)?;
-    let scan = Scan::of(bytes, &header, version.image_limit());
+    let start = header.e_phoff as usize;
+    let scan = Scan::of(bytes, start, header.e_phnum, version.image_limit());
     let code = scan.code()?;
     let text = find_text(bytes, &header, &code)?;
     Ok(outline_of(header, text, scan.reached))
@@ -87,19 +87,18 @@ fn push_segment(segments: &mut Vec<Segment>, entry: &ProgramHeader) -> Result<()
     Ok(())
 }
 
-/// The segments of a file, in order.
-fn collect_segments(
+/// The segments that so many entries from an offset on name, in order.
+pub(crate) fn collect_segments(
     alloc: Global,
     bytes: &[u8],
-    header: &FileHeader,
+    start: usize,
+    count: u16,
 ) -> Result<List<Segment>, NoMemory>
-    requires table { HasTable bytes.now }
-    requires header { header.now ≡ file_header bytes.now }
-    ensures { IfOk result (λ segments. segments ≡ segments_of bytes.now) }
+    requires { start + 56 * count ≤ length bytes.now }
+    ensures { IfOk result (λ segments. segments ≡ segments_in (first_entries start count bytes.now)) }
 {
-    let start = header.e_phoff as usize;
-    let mut segments = Vec::with_capacity(alloc, usize::from(header.e_phnum))?;
-    for i in 0..usize::from(header.e_phnum) {
+    let mut segments = Vec::with_capacity(alloc, usize::from(count))?;
+    for i in 0..usize::from(count) {
         let entry = ProgramHeader::read(bytes, start + PROGRAM_HEADER_BYTES * i);
         push_segment(&mut segments, &entry)?;
     }
@@ -116,7 +115,8 @@ pub fn read_as(alloc: Global, bytes: &[u8], version: Version) -> Result<Image, R
         Ok(outline) => outline,
         Err(refusal) => return Err(ReadFault::Refused(refusal)),
     };
-    match collect_segments(alloc, bytes, &outline.header) {
+    let start = outline.header.e_phoff as usize;
+    match collect_segments(alloc, bytes, start, outline.header.e_phnum) {
         Ok(segments) => Ok(Image {
             entry: outline.header.e_entry,
             flags: outline.header.e_flags,

@@ -6,12 +6,14 @@
 mod fields;
 mod header;
 mod image;
+mod recovery;
 mod refusal;
 mod scan;
 mod sections;
 mod segments;
 
 pub use image::{Image, ReadFault, read, read_as, text};
+pub use recovery::{Part, RecoverFault, Recovered, recover};
 pub use refusal::Refusal;
 pub use segments::Segment;
 

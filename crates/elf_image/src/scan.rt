@@ -1,10 +1,9 @@
 //! One pass over the program header table.
 
-ghost use Rattle.std.specs.Prelude.{◌≡◌, ◌+◌, ◌<◌, ◌≤◌, length, ◌^◌};
+ghost use Rattle.std.specs.Prelude.{◌≡◌, ◌+◌, ◌*◌, ◌<◌, ◌≤◌, length, ◌^◌};
 ghost use Rattle.elf_image.specs.Scan.{IsScan, scan_answer, seen};
-ghost use Rattle.elf_image.specs.Header.{HasTable, file_header};
 
-use crate::header::{FileHeader, PROGRAM_HEADER_BYTES};
+use crate::header::PROGRAM_HEADER_BYTES;
 use crate::refusal::Refusal;
 use crate::segments::{ProgramHeader, Segment};
 
@@ -15,6 +14,8 @@ pub(crate) struct Scan {
     pub(crate) dynamic: bool,
     /// One of them is the record of a rewritten file.
     pub(crate) rewritten: bool,
+    /// One of them is no segment, and passed over.
+    pub(crate) skipped: bool,
     /// A segment is misplaced or starts before the end of one that precedes it.
     pub(crate) misplaced: bool,
     /// The greatest end of a segment.
@@ -37,6 +38,7 @@ impl Scan {
         Scan {
             dynamic: self.dynamic || entry.is_dynamic(),
             rewritten: self.rewritten || entry.is_record(),
+            skipped: self.skipped || !loaded,
             misplaced: self.misplaced
                 || (loaded
                     && (segment.is_misplaced(limit, file_length)
@@ -79,22 +81,21 @@ impl Scan {
         }
     }
 
-    /// The scan of the whole table.
-    pub(crate) fn of(bytes: &[u8], header: &FileHeader, limit: u64) -> Scan
-        requires table { HasTable bytes.now }
-        requires header { header.now ≡ file_header bytes.now }
-        ensures { IsScan limit bytes.now header.now.e_phnum result }
+    /// The scan of so many entries from an offset on.
+    pub(crate) fn of(bytes: &[u8], start: usize, count: u16, limit: u64) -> Scan
+        requires { start + 56 * count ≤ length bytes.now }
+        ensures { IsScan limit bytes.now start count result }
     {
-        let start = header.e_phoff as usize;
         let mut scan = Scan {
             dynamic: false,
             rewritten: false,
+            skipped: false,
             misplaced: false,
             reached: 0,
             code_segments: 0,
             code: None,
         };
-        for i in 0..usize::from(header.e_phnum) {
+        for i in 0..usize::from(count) {
             let entry = ProgramHeader::read(bytes, start + PROGRAM_HEADER_BYTES * i);
             scan = scan.with(&entry, limit, bytes.len());
         }

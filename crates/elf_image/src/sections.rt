@@ -124,7 +124,7 @@ fn sections_span(bytes: &[u8], header: &FileHeader) -> Option<Span>
 impl Span {
     /// Whether it is not empty, made of aligned words, inside a segment's file part and at most
     /// 1 MiB long.
-    fn is_text_of(self, code: &Segment) -> bool
+    pub(crate) fn is_text_of(self, code: &Segment) -> bool
         ensures { result ≡ is_text_of (Some code.now) self }
     {
         let start = u128::from(self.start);
@@ -137,7 +137,7 @@ impl Span {
     }
 
     /// Whether an address is aligned and in it.
-    fn has_entry(self, entry: u64) -> bool
+    pub(crate) fn has_entry(self, entry: u64) -> bool
         ensures { result ≡ is_entry_of self entry }
     {
         self.start <= entry && u128::from(entry) < self.end && entry % 4 == 0

@@ -30,7 +30,7 @@ pub record HasText (l : Layout) : Type 0 where
   pub below : l.text_end ≤ 0x4000_0000
   pub few : l.text_end - l.text_start ≤ 1_048_576
 
-image_limit-few : (v : Version) → image_limit v ≤ 0x4000_0000
+pub image_limit-few : (v : Version) → image_limit v ≤ 0x4000_0000
 image_limit-few One = omega arith
 image_limit-few Two = omega arith
 
@@ -45,7 +45,7 @@ lawful-HasText l h = (let limit = image_limit-few l.version in record {
 
 -- ---- short parts
 
-shadow-short : (l : Layout) → HasText l → All IsShort (shadow_parts l)
+pub shadow-short : (l : Layout) → HasText l → All IsShort (shadow_parts l)
 shadow-short l text =
     let blocks : 64 * (text_count l + 1) ≤ 0x4000_0000 = omega (arith, text.few) in
     All-from_recursion IsShort (shadow_parts l) (blocks, (omega arith, (omega arith, (omega arith, (omega arith, (omega arith, (omega arith, tt)))))))
@@ -77,7 +77,7 @@ IsWritable-rewritable bytes image l h = record {
 
 -- ---- the cursor
 
-file_offset-near : (cursor address : ℕ) → file_offset cursor address ≤ cursor + 4095
+pub file_offset-near : (cursor address : ℕ) → file_offset cursor address ≤ cursor + 4095
 file_offset-near cursor address = omega arith
 
 -- the cursor goes on by at most the part and a page
@@ -99,7 +99,7 @@ entries_from-length cursor (p ∷ ps) =
 
 -- ---- bodies
 
-end_of_parts-append : (cursor : ℕ) (ps qs : List Part) → end_of_parts cursor (ps ++ qs) ≡ end_of_parts (end_of_parts cursor ps) qs
+pub end_of_parts-append : (cursor : ℕ) (ps qs : List Part) → end_of_parts cursor (ps ++ qs) ≡ end_of_parts (end_of_parts cursor ps) qs
 end_of_parts-append cursor [] qs = refl
 end_of_parts-append cursor (p ∷ ps) qs = end_of_parts-append (end_of_part cursor p) ps qs
 
@@ -149,7 +149,7 @@ body_from-length cursor (p ∷ ps) (c ∷ cs) h =
 
 -- ---- segments
 
-word_bytes-length : (words : List ℕ) → length (word_bytes words) ≡ 4 * length words
+pub word_bytes-length : (words : List ℕ) → length (word_bytes words) ≡ 4 * length words
 word_bytes-length [] = refl
 word_bytes-length (w ∷ words) = (let rest = word_bytes-length words in let all = length-append (word w) (word_bytes words) in omega (arith, rest, all))
 
@@ -157,10 +157,10 @@ word_bytes-length (w ∷ words) = (let rest = word_bytes-length words in let all
 abbrev pub InFile : List ℕ → Segment → Type 0
 InFile bytes s = 0 < s.length → s.offset + s.length ≤ length bytes
 
-original-length : (bytes : List ℕ) (s : Segment) → InFile bytes s → length (original_bytes bytes s) ≡ s.length
+pub original-length : (bytes : List ℕ) (s : Segment) → InFile bytes s → length (original_bytes bytes s) ≡ s.length
 original-length bytes s h = grind (arith, length-take s.length (drop s.offset bytes), length-drop s.offset bytes, h)
 
-patched-length : (b : Bool) (image : Image) (words : List ℕ) (s : Segment) (original : List ℕ) → HasWords image words → length original ≡ s.length
+pub patched-length : (b : Bool) (image : Image) (words : List ℕ) (s : Segment) (original : List ℕ) → HasWords image words → length original ≡ s.length
     → b ≡ holds_text image s → length (patched_if b image words s original) ≡ length original
 patched-length false image words s original text long holds = refl
 patched-length true image words s original text long holds =
@@ -172,7 +172,7 @@ patched-length true image words s original text long holds =
     let two = length-append (take (image.text_start - s.address) original ++ word_bytes words) (drop (image.text_end - s.address) original) in
     omega (arith, inside.0, inside.1, front, middle, back, one, two, long, text.ordered, text.counted)
 
-segment-length : (bytes : List ℕ) (image : Image) (words : List ℕ) (s : Segment) → HasWords image words → InFile bytes s
+pub segment-length : (bytes : List ℕ) (image : Image) (words : List ℕ) (s : Segment) → HasWords image words → InFile bytes s
     → s.length ≡ length (segment_bytes bytes image words s)
 segment-length bytes image words s text h =
     sym (original-length bytes s h) ∙ sym (patched-length (holds_text image s) image words s (original_bytes bytes s) text (original-length bytes s h) refl)

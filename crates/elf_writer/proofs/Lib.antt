@@ -3,6 +3,6 @@ mod StreamLemmas
 mod WordLemmas
 mod PartLemmas
 mod SequenceLemmas
-mod FileLemmas
-mod PlaceLemmas
+pub mod FileLemmas
+pub mod PlaceLemmas
 pub mod Rewritable

@@ -11,6 +11,13 @@ use Rattle.elf_writer.specs.declared.header.ProgramHeader.{ProgramHeader}
 use Rattle.elf_writer.specs.declared.part.Part.{Part}
 use Rattle.elf_writer.specs.Headers.{xword, entry_bytes}
 
+-- a part of the file, and an entry of its table
+abbrev pub FilePart : Type 0
+FilePart = Part
+
+abbrev pub FileEntry : Type 0
+FileEntry = ProgramHeader
+
 -- ---- constants of the gABI
 
 abbrev pub PT_LOAD : ℕ

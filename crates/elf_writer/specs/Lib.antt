@@ -6,3 +6,4 @@ pub mod Places
 pub mod Streams
 pub mod Buffers
 pub mod Writing
+pub mod PartPlaces

@@ -1,5 +1,5 @@
 -- The rewritten file of a program, with the code that belongs to its text (this project's own).
-use Rattle.std.specs.Prelude.{ℕ, List, map}
+use Rattle.std.specs.Prelude.{ℕ, ◌==◌, if◌then◌else◌, List, map}
 use Rattle.std.specs.List.{flat_map}
 use Rattle.spec_base.specs.declared.layout.Layout.{Layout}
 use Rattle.rv_decode.specs.Instruction.{instr_of}
@@ -28,3 +28,11 @@ code_of_text l words = record {
 -- the file with that code
 abbrev pub rewritten_file_of : List ℕ → Image → Layout → List ℕ
 rewritten_file_of bytes image l = rewritten_file bytes image l (code_of_text l (text_words bytes image))
+
+-- what a word of a patched text stands for: a gate for the call that it was made from
+abbrev pub ungated_word : ℕ → ℕ
+ungated_word word = if word == 0x0000000B then 0x00000073 else word
+
+-- the file of an image that a rewritten file with these bytes carries
+abbrev pub rewritten_again : List ℕ → Image → Layout → List ℕ
+rewritten_again bytes image l = rewritten_file bytes image l (code_of_text l (map ungated_word (text_words bytes image)))

@@ -9,6 +9,7 @@ mod header;
 mod laws;
 mod part;
 mod patch;
+mod place;
 mod source;
 mod stream;
 mod table;
@@ -17,7 +18,8 @@ mod writing;
 
 pub use buffer::{BUFFER_BYTES, Buffer};
 pub use laws::each_part_stands_at_its_offset;
-pub use patch::patch_word;
+pub use patch::{patch_word, ungate_word};
+pub use place::part_at;
 pub use source::{CodeSource, Parts};
 pub use table::length_of;
 pub use writing::{Written, length, write, write_from};

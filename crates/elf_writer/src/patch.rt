@@ -2,6 +2,7 @@
 
 ghost use Rattle.std.specs.Prelude.{◌≡◌};
 ghost use Rattle.code_model.specs.Patch.{patched_word};
+ghost use Rattle.elf_writer.specs.ProgramCode.{ungated_word};
 
 const ECALL: u32 = 0x0000_0073;
 
@@ -23,4 +24,12 @@ pub fn patch_word(word: u32) -> u32
     } else {
         word
     }
+}
+
+/// What a word of a patched text stands for: a gate for the call that it was made from, and each
+/// other word for itself.
+pub fn ungate_word(word: u32) -> u32
+    ensures { result ≡ ungated_word word }
+{
+    if word == HGATE { ECALL } else { word }
 }

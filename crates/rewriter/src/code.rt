@@ -7,12 +7,12 @@ ghost use Rattle.elf_image.specs.Image.{IsImage, IsTextOf, text_words, words_at}
 ghost use Rattle.elf_image.specs.Profile.{code_of};
 ghost use Rattle.elf_image.specs.Segments.{is_code};
 ghost use Rattle.rewriter.specs.Layouts.{layout_of};
-ghost use Rattle.rewriter.specs.Sources.{code_from};
+ghost use Rattle.rewriter.specs.Sources.{code_from, original_word, originals};
 
 use crate::layout::{layout_of, text_count};
 use byteorder::{ByteOrder, LittleEndian};
 use elf_image::{Image, Segment};
-use elf_writer::{CodeSource, patch_word};
+use elf_writer::{CodeSource, patch_word, ungate_word};
 use hint_stub::stub;
 use rv_decode::decode;
 use shadow_text::{guard_block, helpers};
@@ -31,6 +31,7 @@ pub struct ProgramCode<'a> {
     bytes: &'a [u8],
     offset: usize,
     layout: Layout,
+    gated: bool,
     helpers: Vec<u32>,
     stub: Vec<u32>,
 }
@@ -38,11 +39,11 @@ pub struct ProgramCode<'a> {
 impl<'a> Model for ProgramCode<'a> {
     ghost use Rattle.elf_image.specs.Image.{words_at};
     ghost use Rattle.elf_writer.specs.FileParts.{text_count};
-    ghost use Rattle.rewriter.specs.Sources.{IsHeld, Source};
+    ghost use Rattle.rewriter.specs.Sources.{IsHeld, Source, originals};
 
     ghost Value = { Source };
 
-    ghost view = { λ c. record { layout = c.layout; words = words_at c.offset (text_count c.layout) c.bytes.now } };
+    ghost view = { λ c. record { layout = c.layout; words = originals c.gated (words_at c.offset (text_count c.layout) c.bytes.now) } };
 
     ghost invariant = { λ c. IsHeld c.bytes.now c.offset c.layout c.helpers.items c.stub.items };
 }
@@ -80,20 +81,28 @@ fn word_at(bytes: &[u8], offset: usize) -> u32
     LittleEndian::read_u32(&bytes[offset..])
 }
 
+/// The word of the original text, of which a file has this one.
+fn original_word(gated: bool, word: u32) -> u32
+    ensures { result ≡ original_word gated word }
+{
+    if gated { ungate_word(word) } else { word }
+}
+
 impl<'a> ProgramCode<'a> {
-    /// The code of an accepted file, of which these are the bytes and the image, for so many
-    /// regions.
+    /// The code of the file of an image, of which these are the bytes, for so many regions. Where
+    /// that is a rewritten file, its gates are read as the calls that they stand for.
     pub fn new(
         alloc: Global,
         bytes: &'a [u8],
         image: &Image,
         regions: u32,
         version: Version,
+        gated: bool,
     ) -> Result<ProgramCode<'a>, NoMemory>
         requires image { IsImage bytes.now version image.now }
         requires some { 1 ≤ regions }
         requires few { regions ≤ 65_536 }
-        ensures { IfOk result (λ code. code ≡ record { layout = layout_of image.now regions version; words = text_words bytes.now image.now }) }
+        ensures { IfOk result (λ code. code ≡ record { layout = layout_of image.now regions version; words = originals gated (text_words bytes.now image.now) }) }
     {
         let layout = layout_of(image, regions, version);
         let helpers = helpers(alloc, &layout)?;
@@ -103,6 +112,7 @@ impl<'a> ProgramCode<'a> {
             bytes,
             offset,
             layout,
+            gated,
             helpers,
             stub,
         })
@@ -113,7 +123,10 @@ impl<'a> ProgramCode<'a> {
         requires { index < length self.now.words }
         ensures { result ≡ slice_index self.now.words index }
     {
-        word_at(self.bytes, self.offset + 4 * index as usize)
+        original_word(
+            self.gated,
+            word_at(self.bytes, self.offset + 4 * index as usize),
+        )
     }
 }
 

@@ -44,7 +44,7 @@ fn put_image<O: Sink>(
         (λ _. O.state sink.new ≡ O.state sink.old) }
 {
     let layout = layout_of(image, regions, version);
-    let code = ProgramCode::new(alloc, bytes, image, regions, version)?;
+    let code = ProgramCode::new(alloc, bytes, image, regions, version, false)?;
     let mut buffer = Buffer::new(alloc)?;
     Ok(write_from(bytes, image, &layout, &code, &mut buffer, sink))
 }

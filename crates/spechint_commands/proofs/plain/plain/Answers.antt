@@ -28,6 +28,6 @@ returns g c =
     let between = g.D.Store.state c.read_file.new.store in
     let outside : Outside = record { store = store; out = g.O.Sink.state c.args.out.now; err = g.E.Sink.state c.args.err.now } in
     let after : Outside = record { store = g.D.Store.state c.run_image.new.store; out = g.O.Sink.state c.run_image.new.out; err = g.E.Sink.state c.run_image.new.err } in
-    let accepted = subst (λ items. profile items r.options.layout ≡ Ok c.in-Ok-read_as.image) c.deref.ensures.value c.in-Ok-read_as.ensures.image.given in
+    let accepted = subst (λ items. profile items r.options.layout ≡ Ok c.in-Ok-read_as.image) c.deref.ensures.value c.in-Ok-read_as.ensures.answer in
     let ran = subst (λ items. RunsImage r items c.in-Ok-read_as.image c.run_image.result (record outside { store = between }) after) c.deref-2.ensures.value c.run_image.ensures in
     ran-PlainTo r bytes c.in-Ok-read_as.image c.run_image.result outside after between c.in-Ok.ensures accepted ran

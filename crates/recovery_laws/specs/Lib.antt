@@ -1,0 +1,4 @@
+pub mod Texts
+pub mod Moved
+pub mod OnDisk
+pub mod ReadBack
