@@ -301,9 +301,10 @@ fn steps_up_to_what_stops_them(rt: HostRuntime) -> Result<(), Fail> {
             (passed / 4, told),
             "{view:?} {offset}"
         );
-        let want = match told {
-            Event::Done => (at, view, 0),
-            _ => place_after(told, at, view),
+        let want = if told == Event::Done {
+            (at, view, 0)
+        } else {
+            place_after(told, at, view)
         };
         assert_eq!(rt; (hart.pc(), hart.view(), hart.site()), want);
     }
