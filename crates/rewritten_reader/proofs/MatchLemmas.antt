@@ -4,7 +4,7 @@ use Rattle.std.specs.Prelude.{is_some}
 use Rattle.std.specs.Option.{option_map}
 use Rattle.std.proofs.Math.Seq.{take-add}
 use Rattle.std.proofs.lemmas.Bool.Decides.{nat_tests}
-use Rattle.std.proofs.lemmas.List.{append-nil, take_all, take_at, drop_at, length-drop, length-take}
+use Rattle.std.proofs.lemmas.List.{append-nil, take_all, length-drop, length-take}
 use Rattle.world_io.specs.Outside.{Sure}
 use Rattle.world_io.specs.Puts.{took}
 use Rattle.world_io.specs.Logs.{bytes_of}

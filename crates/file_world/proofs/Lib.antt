@@ -1,0 +1,6 @@
+pub mod Loaded
+pub mod Unseen
+pub mod Kept
+pub mod SamePlain
+pub mod Disk
+pub mod Again
