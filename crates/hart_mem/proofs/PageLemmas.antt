@@ -173,10 +173,10 @@ none_not (Some k) = refl
 lacking_one : (p : Paged) (page : ℕ) (held : Bool) → page < length p.table → is_held p page ≡ held → lacking p page (page + 1) ≡ cond held 0 1
 lacking_one p page held inside e =
     lacking-next p page (page + 1) (omega arith) (omega arith) ∙ rw (none_not (frame_of p page), e, lacking-end p (page + 1)) (by held)
-    where
-      by : (held : Bool) → cond (not held) 1 0 + 0 ≡ cond held 0 1
-      by true = refl
-      by false = refl
+  where
+    by : (held : Bool) → cond (not held) 1 0 + 0 ≡ cond held 0 1
+    by true = refl
+    by false = refl
 
 pub lacking-free : (p : Paged) (page : ℕ) → page < length p.table → is_held p page ≡ false → lacking p page (page + 1) ≡ 1
 lacking-free p page inside e = lacking_one p page false inside e

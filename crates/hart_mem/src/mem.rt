@@ -167,7 +167,8 @@ impl Mem {
             View::Stub => self.stub.word_or_zero_at(STUB_WORDS, STUB_START, pc),
             View::Shadow => {
                 if HELPERS_START <= pc {
-                    self.helpers.word_or_zero_at(HELPER_WORDS, HELPERS_START, pc)
+                    self.helpers
+                        .word_or_zero_at(HELPER_WORDS, HELPERS_START, pc)
                 } else {
                     let count = 16 * (self.text.words().len() + 1);
                     self.shadow.word_or_zero_at(count, SHADOW_START, pc)
@@ -188,7 +189,8 @@ impl Mem {
             View::Stub => self.stub.instr_or_zero_at(STUB_WORDS, STUB_START, pc),
             View::Shadow => {
                 if HELPERS_START <= pc {
-                    self.helpers.instr_or_zero_at(HELPER_WORDS, HELPERS_START, pc)
+                    self.helpers
+                        .instr_or_zero_at(HELPER_WORDS, HELPERS_START, pc)
                 } else {
                     let count = 16 * (self.text.words().len() + 1);
                     self.shadow.instr_or_zero_at(count, SHADOW_START, pc)
@@ -354,7 +356,8 @@ impl Mem {
             return false;
         }
         let bytes = value.to_le_bytes();
-        self.pages.write_first(place as usize, &bytes, size as usize);
+        self.pages
+            .write_first(place as usize, &bytes, size as usize);
         true
     }
 

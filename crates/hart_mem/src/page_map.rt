@@ -55,14 +55,6 @@ impl PageMap {
         self.pool.spare()
     }
 
-    /// Whether a page has a frame.
-    pub fn is_held(&self, page: usize) -> bool
-        requires { page < length self.now.table }
-        ensures { result ≡ is_held self.now page }
-    {
-        self.table[page].is_some()
-    }
-
     // How many of the pages from `first` up to `end` have no frame.
     fn lacking(&self, first: usize, end: usize) -> usize
         requires order { first ≤ end }

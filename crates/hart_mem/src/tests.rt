@@ -2,7 +2,6 @@
 //! expected values are those of the layout's table.
 
 ghost use Rattle.std.specs.Prelude.{◌≡◌};
-ghost use Rattle.hart_mem.specs.Held.{space_of};
 
 use crate::{Access, Bytes, Mem, StoreFault, Width};
 use rv_decode::decode;
@@ -206,8 +205,9 @@ fn stores_widths(mem: &mut Mem, view: View, address: u64) -> bool {
 fn refuses_unaligned(mem: &mut Mem, view: View, address: u64) -> bool {
     for (width, size, _) in &WIDTHS {
         let aligned = *size == 1;
-        if (mem.load(view, address + 1, *width) == Err(Access::Unaligned)) == aligned
-            || (mem.store(view, address + 1, *width, 1) == Err(StoreFault::Unaligned)) == aligned
+        if (mem.load(view, address.wrapping_add(1), *width) == Err(Access::Unaligned)) == aligned
+            || (mem.store(view, address.wrapping_add(1), *width, 1) == Err(StoreFault::Unaligned))
+                == aligned
         {
             return false;
         }
@@ -218,8 +218,8 @@ fn refuses_unaligned(mem: &mut Mem, view: View, address: u64) -> bool {
 // Whether a part ends here: each width can be stored right before, and none here.
 fn ends_at(mem: &mut Mem, view: View, end: u64) -> bool {
     for (width, size, _) in &WIDTHS {
-        if mem.store(view, end - *size, *width, 1) != Ok(())
-            || mem.load(view, end - *size, *width) != Ok(1)
+        if mem.store(view, end.wrapping_sub(*size), *width, 1) != Ok(())
+            || mem.load(view, end.wrapping_sub(*size), *width) != Ok(1)
             || mem.store(view, end, *width, 1) != Err(StoreFault::Out)
             || mem.load(view, end, *width) != Err(Access::Out)
         {
@@ -370,22 +370,14 @@ fn loads_a_part_around_the_text(rt: HostRuntime) {
     assert!(rt; has_the_part_around_the_text(&mem));
 }
 
-// Gives code: so many words of the shadow's text, 16 for each of the text's four and for the guard
-// block, and those of the helpers and of the stub.
-fn give(alloc: Global, mem: &mut Mem, words: [u32; 3]) -> Result<(), NoMemory>
-    requires { (space_of mem.old).layout ≡ record { text_start = 0x1_0004; text_end = 0x1_0014; regions = 3; version = Version.Two } }
-{
-    let shadow = vec![in alloc; words[0]; 80]?;
-    let helpers = vec![in alloc; words[1]; 282]?;
-    let stub = vec![in alloc; words[2]; 71]?;
-    mem.set_code(shadow, helpers, stub)
-}
-
-// A memory that was given code twice.
+// Code of ones, twos and threes: 16 words for each of the text's four and for the guard block, the
+// helpers, and the stub.
 fn with_code(alloc: Global) -> Result<Mem, NoMemory> {
     let mut mem = Mem::new(alloc, layout(Version::Two), vec![in alloc; 1, 2, 3, 4]?)?;
-    give(alloc, &mut mem, [4, 5, 6])?;
-    give(alloc, &mut mem, [1, 2, 3])?;
+    let shadow = vec![in alloc; 1; 80]?;
+    let helpers = vec![in alloc; 2; 282]?;
+    let stub = vec![in alloc; 3; 71]?;
+    mem.set_code(shadow, helpers, stub)?;
     Ok(mem)
 }
 

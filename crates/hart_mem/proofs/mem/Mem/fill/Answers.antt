@@ -63,4 +63,3 @@ returns-clause-short c = rw (← c.self.view_is) c.fill.ensures.short
 pub returns-clause-enough : goal.returns-clause-enough
 unfolding spare_of
 returns-clause-enough c = rw (← c.self.view_is) (λ enough few. ok_unless c.fill.result c.fill.ensures.short (spare_enough c.self.inside.pages c.args.address (length c.args.bytes.now) c.self.inside.pages.pool.spare few enough))
-
