@@ -1,0 +1,4 @@
+pub mod Gates
+pub mod ShadowSteps
+pub mod ProgramSteps
+pub mod StubSteps
