@@ -100,7 +100,8 @@ impl Mem {
     /// The layout with which the memory was made.
     #[tactic(auto, unfolding(crate::specs::Held::space_of, crate::specs::Held::spare_of))]
     pub fn layout(&self) -> Layout
-        ensures { result ≡ (space_of self.now).layout }
+        ensures value { result ≡ (space_of self.now).layout }
+        ensures lawful { IsTrue (is_lawful (space_of self.now).layout) }
     {
         self.layout
     }
