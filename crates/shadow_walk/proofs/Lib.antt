@@ -8,3 +8,5 @@ pub mod WalkWords
 pub mod Strides
 pub mod Onward
 pub mod Behind
+pub mod BackRows
+pub mod LogWords

@@ -6,7 +6,9 @@ ghost use Rattle.run_laws.specs.OwnLaws.{Accepted};
 ghost use Rattle.hart_mem.specs.Held.{lacks_frame, space_of, spare_of};
 ghost use Rattle.hart_step.specs.Core.{core_of};
 ghost use Rattle.hart_step.specs.Step.{outcome, stepped, effect_here};
-ghost use Rattle.shadow_walk.specs.Shows.{ShowsShadow, MovesBy};
+ghost use Rattle.word_laws.specs.Shown.{ShowsShadow};
+ghost use Rattle.word_laws.specs.ShadowWords.{ShadowGoes};
+ghost use Rattle.shadow_walk.specs.Shows.{MovesBy};
 
 use hart_mem::Mem;
 use hart_step::{Event, Hart, step};
@@ -25,6 +27,8 @@ pub fn advance(hart: &mut Hart, mem: &mut Mem) -> Event
     ensures view { (core_of hart.new).view ≡ View.Shadow }
     ensures never_starved { result ≢ Event.NoMemory }
     ensures spare { (spare_of mem.new ≤ spare_of mem.old) × (spare_of mem.old ≤ spare_of mem.new + 1) }
+    ensures goes { (w : World) (r : Run) → Accepted w → ShowsShadow w r (core_of hart.old) (space_of mem.old) →
+        ShadowGoes result w r (core_of hart.new) (space_of mem.new) }
     ensures moves { (w : World) (r : Run) → Accepted w → ShowsShadow w r (core_of hart.old) (space_of mem.old) →
         MovesBy result w r (core_of hart.old) (space_of mem.old) (core_of hart.new) (space_of mem.new) }
 {

@@ -34,8 +34,11 @@ const MOST_WORDS: u32 = 72 + 5 * 65_536;
 /// executed, which no code of a rewritten program does.
 ///
 /// From word 1 of an instruction's block on, where `key` is that of the call in the registers, the
-/// walk is one instruction of the program, by 227 words at most. From RESTART's first word it takes
-/// 63 words at most and 5 for each region in use, and from an HCALL on 19.
+/// walk is one instruction of the program, by 227 words at most. It parks by Fault exactly where the
+/// program traps or jumps out of its text, by LogFull exactly at a call with a key where 64 pairs
+/// wait, and by Regions only at a store whose region has no copy, with all slots in use. From
+/// RESTART's first word it takes 63 words at most and 5 for each region in use. From an HCALL on it
+/// takes 19, and parks, by Fault, exactly where the place behind a restart is the text's end.
 pub fn walk(hart: &mut Hart, mem: &mut Mem, layout: &Layout, key: u64) -> Option<Walked>
     requires shadow { (core_of hart.old).view ≡ Shadow }
     requires lawful { IsTrue (is_lawful layout.now) }
