@@ -9,4 +9,5 @@ pub mod Strides
 pub mod Onward
 pub mod Behind
 pub mod BackRows
+pub mod CallsPerformed
 pub mod LogWords
