@@ -1,6 +1,5 @@
 -- What the shadow has in place of the program's data stays where a region gets a copy, and where a byte is set in a copy only that byte changes.
-use Rattle.std.proofs.Common.{◌≡◌, ◌≢◌, ℕ, zero, suc, ◌+◌, ◌-◌, ◌*◌, ◌/◌, ◌%◌, ◌<◌, ◌≤◌, ◌⊎◌, inl, inr, Bool, true, false, ◌==◌, not, ◌&&◌, List, [], ◌∷◌, length, get_or, IsTrue, refl, ap, sym, subst, ◌∙◌, arith}
-use Rattle.std.specs.Prelude.{⊤}
+use Rattle.std.proofs.Common.{◌≡◌, ◌≢◌, ℕ, zero, suc, ◌+◌, ◌-◌, ◌*◌, ◌/◌, ◌%◌, ◌<◌, ◌≤◌, ◌⊎◌, inl, inr, Bool, true, false, ◌==◌, not, List, [], ◌∷◌, length, get_or, IsTrue, refl, ap, sym, ◌∙◌, arith}
 use Rattle.std.proofs.lemmas.Bool.{and_parts}
 use Rattle.std.proofs.lemmas.Bool.Decides.{nat_tests}
 use Rattle.spec_base.specs.Word.{byte_of}
@@ -11,7 +10,7 @@ use Rattle.rv_model.specs.Rights.{in_range, in_text, is_data}
 use Rattle.rv_model.specs.Space.{Space, program_byte, text_byte}
 use Rattle.code_model.specs.Regions.{entry_address, entry_of, slots_in_use, listed_address, slot_address, byte_by_entry, shadowed, copy_place, set_in_copies, with_copy, with_copies, uncopied}
 use Rattle.code_model.specs.Tables.{AreConsistent, all_regions}
-use Rattle.cow_regions.specs.Fills.{HaveCopies, ShadowedBut}
+use Rattle.cow_regions.specs.Fills.{ShadowedBut}
 use Rattle.cow_regions.proofs.SharedNumbers.{regions-most}
 use Rattle.cow_regions.proofs.RangeBytes.{whole-regions}
 use Rattle.cow_regions.proofs.Copies.{consistent-above, consistent-next, count-next, entry-above, entry-new, entry-other}

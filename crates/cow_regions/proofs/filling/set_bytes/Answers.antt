@@ -1,10 +1,9 @@
-use Rattle.std.proofs.Common.{◌≡◌, ◌+◌, ◌∙◌, ◌/◌, ℕ, refl, ap, arith}
+use Rattle.std.proofs.Common.{◌+◌, ◌∙◌, ℕ, refl, ap, arith}
 use Rattle.std.proofs.lemmas.List.{drop_all}
 use Rattle.rv_model.specs.Space.{Space}
-use Rattle.code_model.specs.Regions.{entry_of}
 use Rattle.hart_mem.specs.Held.{space_of}
 use Rattle.code_model.specs.Tables.{all_regions}
-use Rattle.cow_regions.proofs.SetBytes.{AreSet-start, AreSet-more, AreSet-end, AreSet-slot, shares-more, IsSet-from}
+use Rattle.cow_regions.proofs.SetBytes.{AreSet-start, AreSet-more, AreSet-slot, shares-more, IsSet-from}
 use Rattle.cow_regions.proofs.filling.set_bytes.Goals as goal
 
 pub loop-done-init : goal.loop-done-init
