@@ -5,7 +5,6 @@ use Rattle.spec_base.specs.Layout.{helpers_start}
 use Rattle.spec_base.specs.declared.layout.Layout.{Layout}
 use Rattle.spec_base.specs.declared.note.ShadowState.TheVariants.{Running}
 use Rattle.rv_decode.specs.declared.instr.Instr.{Instr}
-use Rattle.rv_model.specs.Memory.{Memory}
 use Rattle.rv_model.specs.Space.{program_byte}
 use Rattle.run_model.specs.Run.{World, Run, Answer, rewritten_words}
 use Rattle.run_model.specs.ShadowMoves.{is_arrival, shadow_step}
@@ -24,7 +23,7 @@ use Rattle.shadow_laws.proofs.ShadowNumbers.{Sized, stock_of}
 use Rattle.shadow_laws.proofs.ShadowRuns.{block-arrives}
 use Rattle.shadow_laws.proofs.Sound.{At, bare, is_helper, parked_running}
 use Rattle.shadow_laws.proofs.SoundSteps.{landed}
-use Rattle.hint_laws.proofs.Within.{Doing, ends}
+use Rattle.hint_laws.proofs.Within.{ends}
 use Rattle.hint_laws.proofs.WithinSteps.{Inner, in_helper, at_pad, restarted-place}
 use Rattle.hint_laws.proofs.Spots.{inner-arrival}
 

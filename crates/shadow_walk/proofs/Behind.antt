@@ -5,7 +5,6 @@ use Rattle.spec_base.specs.declared.layout.Layout.{Layout}
 use Rattle.spec_base.specs.declared.note.ShadowState.TheVariants.{Running, Parked}
 use Rattle.spec_base.specs.declared.park.Park.{Park}
 use Rattle.spec_base.specs.declared.park.Park.TheVariants as park
-use Rattle.rv_decode.specs.declared.instr.Instr.{Instr}
 use Rattle.rv_decode.specs.declared.instr.Instr.TheVariants.{Ecall, Hpark}
 use Rattle.rv_model.specs.Registers.{Registers, reg, with_reg}
 use Rattle.rv_model.specs.Space.{Space}
@@ -15,7 +14,6 @@ use Rattle.code_model.specs.Places.{block_at}
 use Rattle.run_model.specs.Run.{World, Run, Answer}
 use Rattle.run_model.specs.ShadowMoves.{is_arrival, shadow_step, fetch_shadow}
 use Rattle.run_laws.specs.OwnLaws.{Accepted}
-use Rattle.run_model.specs.Restarts.{instr_at}
 use Rattle.own_laws.proofs.Reached.{false_true}
 use Rattle.side_model.specs.Hart.{Regs, put}
 use Rattle.side_model.specs.Places.{Restarting, InBlock, InHelper, address}
@@ -27,8 +25,7 @@ use Rattle.side_model.proofs.Registers.{HasRegs-of, HasRegs-put}
 use Rattle.rows_log.specs.RestartRows.{saved, RestartedRow, r49}
 use Rattle.shadow_laws.proofs.ShadowNumbers.{Sized, stock_of}
 use Rattle.shadow_laws.proofs.Sound.{At, bare, Target, target-of, site-is}
-use Rattle.shadow_laws.proofs.TextBlocks.{InText, text, at-address}
-use Rattle.hint_laws.proofs.Spots.{InstructionStands, instr-stands}
+use Rattle.shadow_laws.proofs.TextBlocks.{InText, text}
 use Rattle.hint_laws.proofs.Within.{goes_to, behind, answered, unboxing}
 use Rattle.hart_mem.specs.Held.{Held}
 use Rattle.hart_step.specs.Core.{Core}

@@ -1,6 +1,5 @@
 -- The HCALL in the block of a call: the shadow goes on with the state's next state, but for the bytes of a read that isn't filled.
-use Rattle.std.proofs.Common.{◌≡◌, ℕ, zero, suc, ◌+◌, ◌-◌, ◌<◌, ◌≤◌, Bool, true, false, List, Some, IsTrue, length, get_or, refl, ◌∙◌, ap, sym, subst, arith}
-use Rattle.std.proofs.lemmas.Bool.Decides.{nat_tests}
+use Rattle.std.proofs.Common.{◌≡◌, ℕ, ◌-◌, Bool, true, false, List, length, get_or, refl, ◌∙◌, ap, sym, subst, arith}
 use Rattle.spec_base.specs.Files.{Files}
 use Rattle.spec_base.specs.Word.{word_of_int}
 use Rattle.spec_base.specs.declared.layout.Layout.{Layout}
@@ -8,19 +7,16 @@ use Rattle.spec_base.specs.declared.note.ShadowState.{ShadowState}
 use Rattle.spec_base.specs.declared.note.ShadowState.TheVariants.{Running, Parked}
 use Rattle.spec_base.specs.declared.park.Park.TheVariants as park
 use Rattle.spec_base.specs.declared.spot.ReadSpot.{ReadSpot}
-use Rattle.rv_decode.specs.declared.instr.Instr.{Instr}
-use Rattle.rv_decode.specs.declared.instr.Instr.TheVariants.{Ecall, Hcall}
+use Rattle.rv_decode.specs.declared.instr.Instr.TheVariants.{Ecall}
 use Rattle.rv_model.specs.Memory.{Memory, patched, written, is_within}
 use Rattle.rv_model.specs.Registers.{Registers, with_reg}
 use Rattle.rv_model.specs.Effect.{after}
-use Rattle.rv_model.specs.Rights.{is_data}
 use Rattle.rv_model.specs.Space.{program_byte}
 use Rattle.program_model.specs.Descriptors.{Descriptors}
 use Rattle.program_model.specs.Calls.{CallPlan, Set, Look, Read, Write, Exit, bytes_read}
 use Rattle.program_model.specs.PlainRun.{State, plan_of}
-use Rattle.code_model.specs.Places.{block_at}
 use Rattle.run_model.specs.Run.{World, Run, Answer, Usual, Took, Failed, Lost, rewritten_words}
-use Rattle.run_model.specs.ShadowMoves.{arrived, arrived_if, assumed, fill, fill_if, hint_given, is_arrival, is_filled, is_running, shadow_at_word, shadow_in, shadow_plan, shadow_step, word_counted}
+use Rattle.run_model.specs.ShadowMoves.{arrived, arrived_if, assumed, fill, fill_if, hint_given, is_filled, shadow_at_word, shadow_in, shadow_plan, shadow_step, word_counted}
 use Rattle.run_laws.specs.OwnLaws.{Accepted}
 use Rattle.run_model.specs.Restarts.{call_action}
 use Rattle.run_model.specs.Marks.{no_marks}
@@ -32,11 +28,11 @@ use Rattle.mark_laws.specs.Agreement.{Agrees, SeesAlike, HasAll, CallLeads, assu
 use Rattle.mark_laws.specs.Sizes.{TrueSizes}
 use Rattle.mark_laws.proofs.OneCall.{plan_agrees, call_agrees}
 use Rattle.mark_laws.proofs.Sizes.{states_find_all}
-use Rattle.shadow_laws.proofs.ShadowNumbers.{Sized, stock_of, in-keeps}
+use Rattle.shadow_laws.proofs.ShadowNumbers.{in-keeps}
 use Rattle.hint_laws.proofs.Followed.{view_in}
 use Rattle.hint_laws.proofs.FilledViews as seen
 use Rattle.hint_laws.proofs.FilledViews.{SharedBehind, shared-behind}
-use Rattle.hint_laws.proofs.WordFacts.{PlanDoes, ReadDoes, word-calls, word-leaves}
+use Rattle.hint_laws.proofs.WordFacts.{PlanDoes, word-calls, word-leaves}
 use Rattle.shadow_walk.specs.Walks.{StandsAtCall}
 use Rattle.shadow_walk.specs.Restarts.{StandsAnswered}
 use Rattle.shadow_walk.specs.Performed.{fills, is_left, HasStateBut, Performs, goes_on, exits, fails, CallsArePerformed}

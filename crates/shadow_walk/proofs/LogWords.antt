@@ -1,5 +1,5 @@
 -- The words of a call's block and of APPEND, by the log: up to the HCALL a call with a key has joined it, where there was room for a pair; it parks at LogFull where 64 pairs wait.
-use Rattle.std.proofs.Common.{◌≡◌, ℕ, zero, suc, ◌+◌, ◌-◌, ◌^◌, ◌<◌, ◌≤◌, ◌⊎◌, inl, inr, Bool, true, false, ◌&&◌, ◌==◌, Option, Some, None, refl, ◌∙◌, ap, sym, subst, arith}
+use Rattle.std.proofs.Common.{◌≡◌, ℕ, ◌+◌, ◌-◌, ◌^◌, ◌<◌, ◌≤◌, ◌⊎◌, inl, inr, Bool, true, false, ◌&&◌, Option, Some, None, refl, ◌∙◌, ap, sym, subst, arith}
 use Rattle.std.proofs.lemmas.Bool.Decides.{nat_tests}
 use Rattle.spec_base.specs.declared.layout.Layout.{Layout}
 use Rattle.spec_base.specs.declared.note.ShadowState.{ShadowState}
@@ -15,7 +15,7 @@ use Rattle.rv_model.specs.Space.{program_byte}
 use Rattle.program_model.specs.Calls.{CallPlan, key_of}
 use Rattle.program_model.specs.PlainRun.{State, plan_of}
 use Rattle.code_model.specs.Blocks.{block}
-use Rattle.code_model.specs.Log.{log_head, log_tail, logged, IsQueue}
+use Rattle.code_model.specs.Log.{log_head, log_tail, IsQueue}
 use Rattle.code_model.specs.Places.{block_at}
 use Rattle.run_model.specs.Run.{World, Run, Answer, rewritten_words}
 use Rattle.run_model.specs.ShadowMoves.{arrived, arrived_if, fetch_shadow, is_arrival, is_call_word, is_running, shadow_at, shadow_at_word, shadow_in, shadow_plan, shadow_step, word_counted}
@@ -33,7 +33,7 @@ use Rattle.side_model.proofs.Registers as low
 use Rattle.side_model.proofs.Registers.{HasRegs-of}
 use Rattle.side_model.specs.Tables.{HasTabs}
 use Rattle.code_model.specs.Tables.{Tabs, TableOk}
-use Rattle.rows_log.specs.Queue.{HasRoom, LogStep}
+use Rattle.rows_log.specs.Queue.{HasRoom}
 use Rattle.rows_log.specs.CallRows as row
 use Rattle.rows_log.specs.CallRows.{IsSite, Stage, Before, Headed, Room, HasKey, HasPair, Appended, AtStage, Settled, keyless, keyed, CallRow, is_early, is_headed, KeyStep, keeps_key, finds_key, HeadStep, finds_head, keeps_head, no_head, CallNext, LogIsFull}
 use Rattle.rows_log.proofs.CallWords.{call_leads, call_starts}

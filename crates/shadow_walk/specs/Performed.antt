@@ -1,5 +1,5 @@
 -- What the HCALL in the block of a call comes to: the shadow goes on with the state's next state, but for the bytes of a read that isn't filled (this project's own).
-use Rattle.std.specs.Prelude.{ℕ, ◌≡◌, ◌<◌, Bool, true, false, List, Some, IsTrue}
+use Rattle.std.specs.Prelude.{ℕ, ◌≡◌, ◌<◌, Bool, false, List, Some, IsTrue}
 use Rattle.spec_base.specs.declared.note.ShadowState.TheVariants.{Running, Parked}
 use Rattle.spec_base.specs.declared.park.Park.TheVariants as park
 use Rattle.rv_model.specs.Memory.{is_within}

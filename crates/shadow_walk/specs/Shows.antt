@@ -1,8 +1,6 @@
 -- What the shadow's move is by the event of a step (this project's own).
 use Rattle.std.specs.Prelude.{ℕ, ◌≡◌, Bool, Some}
-use Rattle.spec_base.specs.declared.machine.View.TheVariants.{Shadow}
-use Rattle.spec_base.specs.declared.note.ShadowState.{ShadowState}
-use Rattle.spec_base.specs.declared.note.ShadowState.TheVariants.{Running, Parked}
+use Rattle.spec_base.specs.declared.note.ShadowState.TheVariants.{Parked}
 use Rattle.spec_base.specs.declared.park.Park.TheVariants.{Fault}
 use Rattle.rv_decode.specs.declared.instr.Instr.TheVariants.{Hkey, Hcall}
 use Rattle.rv_model.specs.Registers.{with_reg}
@@ -11,7 +9,6 @@ use Rattle.rv_model.specs.Space.{Space}
 use Rattle.program_model.specs.Calls.{key_of}
 use Rattle.run_model.specs.Run.{World, Run, Answer}
 use Rattle.run_model.specs.ShadowMoves.{fetch_shadow, shadow_plan, shadow_step}
-use Rattle.machine_laws.specs.OneMachine.{space_of_run}
 use Rattle.hart_step.specs.Core.{Core}
 use Rattle.hart_step.specs.declared.event.Event.{Event}
 use Rattle.hart_step.specs.declared.event.Event.TheVariants as event

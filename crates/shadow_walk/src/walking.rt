@@ -3,7 +3,7 @@
 ghost use Rattle.std.specs.Prelude.{◌≡◌, IsTrue};
 ghost use Rattle.spec_base.specs.Layout.{is_lawful};
 ghost use Rattle.spec_base.specs.declared.machine.View.TheVariants.{Shadow};
-ghost use Rattle.hart_mem.specs.Held.{space_of};
+ghost use Rattle.hart_mem.specs.Held.{space_of, spare_of};
 ghost use Rattle.hart_step.specs.Core.{core_of};
 ghost use Rattle.run_model.specs.ShadowMoves.{is_arrival};
 ghost use Rattle.shadow_walk.specs.Walks.{BlockIsOneInstruction};
@@ -43,6 +43,7 @@ pub fn walk(hart: &mut Hart, mem: &mut Mem, layout: &Layout, key: u64) -> Option
     requires shadow { (core_of hart.old).view ≡ Shadow }
     requires lawful { IsTrue (is_lawful layout.now) }
     ensures view { (core_of hart.new).view ≡ Shadow }
+    ensures spare { spare_of mem.new ≡ spare_of mem.old }
     ensures block { BlockIsOneInstruction layout.now key result (core_of hart.old) (space_of mem.old) (core_of hart.new) (space_of mem.new) }
     ensures anew { GoesAnew layout.now result (core_of hart.old) (space_of mem.old) (core_of hart.new) (space_of mem.new) }
     ensures onward { GoesOnward layout.now result (core_of hart.old) (space_of mem.old) (core_of hart.new) (space_of mem.new) }

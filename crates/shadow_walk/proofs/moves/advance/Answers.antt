@@ -21,6 +21,9 @@ returns-clause-never_starved c q =
     never_starved c.args.mem.now (effect_here h s) h s
     (ap (λ (v : View). (stepped (lacks_frame v c.args.mem.now) (effect_here h s) h s).event) (sym c.requires.shadow) ∙ sym (ap (λ (o : Outcome). o.event) c.step.ensures.outcome) ∙ q)
 
+pub returns-clause-spare : goal.returns-clause-spare
+returns-clause-spare c = c.step.ensures.kept c.requires.shadow
+
 pub returns-clause-goes : goal.returns-clause-goes
 returns-clause-goes c w r accepted shows = shadow_words_lead w r accepted c.args.mem.now c.step.result (core_of c.args.hart.now) (space_of c.args.mem.now) (core_of c.step.new.hart) (space_of c.step.new.mem) shows c.step.ensures.outcome
 

@@ -15,6 +15,7 @@ pub loop-words-init : goal.loop-words-init
 loop-words-init c =
     record {
       view = c.requires.shadow;
+      spare = refl;
       way = sets_out c.args.layout.now c.args.key (core_of c.args.hart.now) (space_of c.args.mem.now);
       anew = begins_anew c.args.layout.now (core_of c.args.hart.now) (space_of c.args.mem.now);
       onward = begins_onward c.args.layout.now (core_of c.args.hart.now) (space_of c.args.mem.now);
@@ -55,6 +56,7 @@ pub returns-in_default : goal.returns-in_default
 returns-in_default c =
     record {
       view = c.advance.ensures.view;
+      spare = c.advance.ensures.spare ∙ c.loop-words.invariant.spare;
       block = λ w x r q a same shows at key.
           absurd
           (strayed w a (record { outcome = c.advance.ensures.outcome; moves = c.advance.ensures.moves }) (c.loop-words.invariant.way w x r q a same shows at key) c.advance.result refl
@@ -138,6 +140,7 @@ loop-words-preserved c =
             | in-Done f ↦ ap (λ (h : HeldCore). (core_of h).view) f.hart-is ∙ c.advance.ensures.view
             | in-Key f ↦ ap (λ (h : HeldCore). (core_of h).view) f.hart-is ∙ ap (λ (d : Core). d.view) f.answer.ensures ∙ c.advance.ensures.view
           ];
+      spare = c.advance.ensures.spare ∙ c.loop-words.invariant.spare;
       way = λ w x r q a same shows at key.
           let at_pc : is_arrival w.image.layout (core_of c.match-advance.hart).pc ≡ false =
           ap₂ is_arrival (sym same) (sym c.pc.ensures) ∙ sym c.is_arrival.ensures ∙ c.if-is_arrival.false in
