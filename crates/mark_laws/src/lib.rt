@@ -35,14 +35,6 @@ pub fn sizes_are_true()
     ensures runs { SizesAreTrue }
 {}
 
-ghost use Rattle.run_laws.specs.HintLaws.{UseIsAfterHorizon};
-
-/// The first use of a marked register or byte is never before the horizon, in any run: where none of
-/// the first instructions since the restart touches an unfilled byte, none of them is a use.
-pub fn use_is_after_horizon()
-    ensures { UseIsAfterHorizon }
-{}
-
 ghost use Rattle.mark_laws.specs.Settled.{SetsRestOnNumbers, HorizonRestsOnFilled, RestartRestsOnOrigin, OthersAreLeft, ChangesAreCovered, OwnChangesAreCovered};
 
 /// What is marked, unfilled or settled after i instructions, and whether a use or the horizon has come

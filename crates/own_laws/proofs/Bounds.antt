@@ -21,7 +21,8 @@ use Rattle.program_model.specs.Calls.{CallPlan, Set, Look, Read, Write, Exit, by
 use Rattle.program_model.specs.PlainRun.{State, Image, Taken, Step, Went, Traps, text_of, plan_of, performed, taken_by, after_effect, at_word, next, completed, next_unless, next_state, state_after, size_in}
 use Rattle.run_laws.specs.OwnLaws.{AllBytes}
 use Rattle.spec_base.specs.declared.layout.Layout.{Layout}
-use Rattle.own_laws.proofs.Offsets.{Lawful, PlanFits, plan_by-fits, opened-lawful, after_read-lawful}
+use Rattle.run_laws.specs.Numbers.{Lawful}
+use Rattle.own_laws.proofs.Offsets.{PlanFits, plan_by-fits, opened-lawful, after_read-lawful}
 use Rattle.rv_model.proofs.Results.{Bytes, load-small, imm_result-small, imm_w_result-small, reg_result-small, reg_w_result-small, wrap-small, word_of_int-small}
 
 -- each register is below 2^64

@@ -133,9 +133,9 @@ module _ (w : World) (x : Answer) where
   word-lowers : (r next : Run) (q : State) (t : Tally) (k : ℕ) (rs : Registers) (page : Memory) → side_of r ≡ stub_side q t k rs page
       → is_some r.cache.demanded ≡ false → WordGoes q t k r.cache r.shared r.shadow.state next → Gets r next
   word-lowers r next q t k rs page e f (to_row l x29 x30 x31 page' row is less same held) = lowers r next q t t k l rs _ page page' e is refl refl less f same
-  word-lowers r next q t k rs page e f (to_restarted c page' s is less same full left) =
+  word-lowers r next q t k rs page e f (to_restarted c page' s is less same full left runs) =
       lowers r next q t (restarted_tally q t) k 71 rs _ page page' e is refl refl less f same
-  word-lowers r next q t k rs page e f (to_call page' is less same left) = lowers r next q t t k 26 rs _ page page' e is refl refl less f same
+  word-lowers r next q t k rs page e f (to_call page' is less same left f' goes) = lowers r next q t t k 26 rs _ page page' e is refl refl less f same
 
   -- ---- an own move
 

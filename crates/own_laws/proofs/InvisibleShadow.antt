@@ -1,5 +1,5 @@
 -- A move of the shadow leaves the own side, puts nothing, and hears from the outside only that a look failed.
-use Rattle.std.proofs.Common.{◌≡◌, ℕ, Bool, true, false, List, [], ◌∷◌, Option, Some, None, refl, ap, sym, ◌∙◌, ◌%◌, ◌==◌, ◌&&◌}
+use Rattle.std.proofs.Common.{◌≡◌, ℕ, Bool, true, false, not, is_none, ◌||◌, List, [], ◌∷◌, Option, Some, None, refl, ap, sym, ◌∙◌, ◌%◌, ◌==◌, ◌&&◌}
 use Rattle.spec_base.specs.declared.machine.View.TheVariants.{Shadow}
 use Rattle.spec_base.specs.declared.note.ShadowState.{ShadowState}
 use Rattle.spec_base.specs.declared.note.ShadowState.TheVariants.{Never, Running, Stopped, Parked}
@@ -18,8 +18,8 @@ use Rattle.program_model.specs.PlainRun.{size_in}
 use Rattle.program_model.specs.Cache.{Cache, hinted, all_hinted, hint_if, is_idle_hint, blocks_of}
 use Rattle.run_model.specs.Run.{World, Run, RunEnd, Answer, Usual, Took, Failed, Lost, rewritten_words}
 use Rattle.run_model.specs.ShadowMoves.{shadow_in, shadow_at_word, shadow_after, shadow_gate, shadow_stores, assumed, look_assumed, assumed_with, hint_given, fill_if, is_filled, parked, arrived_if, word_counted, fetch_shadow, is_running, is_arrival, shadow_plan, is_call_word}
-use Rattle.run_model.specs.Moves.{step, step_unless, moved, begun, shadow_while}
-use Rattle.run_laws.specs.OwnLaws.{IsShadowMove, has_failed, ShadowIsInvisible, is_look, asks_for_look}
+use Rattle.run_model.specs.Moves.{step, step_unless, moved, begun, is_idle, shadow_while}
+use Rattle.run_laws.specs.OwnLaws.{IsShadowMove, has_failed, ShadowIsInvisible, is_look, next_looks, asks_for_look}
 use Rattle.std.specs.Prelude.{⊤}
 use Rattle.rv_decode.specs.declared.instr.LoadOp.{LoadOp}
 use Rattle.rv_model.specs.Memory.{Memory}
@@ -217,12 +217,12 @@ module _ (w : World) (x y : Answer) (same : has_failed x ≡ has_failed y) where
 -- ---- what the shadow hears where it asks for no look
 
 -- an effect that is no call
-abbrev NoCallIn : Effect → Type 0
+abbrev pub NoCallIn : Effect → Type 0
 NoCallIn (Gated (Hcall unhinted)) = ⊥
 NoCallIn _ = ⊤
 
-record NoCall (e : Effect) : Type 0 where
-  by : NoCallIn e
+pub record NoCall (e : Effect) : Type 0 where
+  pub by : NoCallIn e
 
 -- a jump is no call
 jump_if-no_call : (b : Bool) (rs : Registers) (target : ℕ) → NoCall (jump_if b rs target)
@@ -247,7 +247,7 @@ store_if-no_call true false a width v = record { by = tt }
 store_if-no_call true true a width v = record { by = tt }
 
 -- only a call's word is a call
-effect-no_call : (r : Rights) (m : Memory) (rs : Registers) (pc : ℕ) (i : Instr) → is_call_word (Some i) ≡ false → NoCall (effect Shadow r m rs pc i)
+pub effect-no_call : (r : Rights) (m : Memory) (rs : Registers) (pc : ℕ) (i : Instr) → is_call_word (Some i) ≡ false → NoCall (effect Shadow r m rs pc i)
 effect-no_call r m rs pc (Jal rd imm) h = jump_if-no_call _ _ _
 effect-no_call r m rs pc (Jalr rd rs1 imm) h = jump_if-no_call _ _ _
 effect-no_call r m rs pc (Branch op rs1 rs2 imm) h = branch_if-no_call (is_taken op (reg rs rs1) (reg rs rs2)) rs pc _
@@ -306,31 +306,31 @@ module _ (w : World) (x y : Answer) where
       ap (λ (next : Run). arrived_if (is_running next.shadow.state && is_arrival w.image.layout next.shadow.pc) next) (instr-deaf r i (is_call_word (Some i)) refl h)
 
   -- and a word of a shadow that may run
-  in-deaf : (s : ShadowState) (r : Run) → asks_for_look w r ≡ false → shadow_in s w x r ≡ shadow_in s w y r
+  in-deaf : (s : ShadowState) (r : Run) → (not (not (is_running s)) && next_looks w r) ≡ false → shadow_in s w x r ≡ shadow_in s w y r
   in-deaf Running r h = ap word_counted (word-deaf r (fetch_shadow w r.shadow.pc) h)
   in-deaf Never r h = refl
   in-deaf Stopped r h = refl
   in-deaf (Parked cause) r h = refl
 
   -- and that may have to wait for a stall
-  while-deaf : (b : Bool) (r : Run) → asks_for_look w r ≡ false → shadow_while b w x r ≡ shadow_while b w y r
+  while-deaf : (b : Bool) (r : Run) → (not (not b || not (is_running r.shadow.state)) && next_looks w r) ≡ false → shadow_while b w x r ≡ shadow_while b w y r
   while-deaf true r h = in-deaf r.shadow.state r h
   while-deaf false r h = refl
 
-  -- so does a move of the shadow
-  moved-deaf : (m : Move) (r : Run) → IsShadowMove m → asks_for_look w r ≡ false → moved w x r m ≡ moved w y r m
-  moved-deaf S r s h = in-deaf r.shadow.state r h
-  moved-deaf T r s h = while-deaf r.stalled r h
-  moved-deaf O r s h = elim s [ ]
-  moved-deaf D r s h = elim s [ ]
-
   -- so does a step
-  step-deaf : (r : Run) (m : Move) → IsShadowMove m → asks_for_look w r ≡ false → step w r (m, x) ≡ step w r (m, y)
-  step-deaf r m s h = by_end r.end
+  step-deaf : (r : Run) (m : Move) → IsShadowMove m → asks_for_look w r m ≡ false → step w r (m, x) ≡ step w r (m, y)
+  step-deaf r S s h = by_end r.end h
     where
-      by_end : (e : Option RunEnd) → step_unless e w r (m, x) ≡ step_unless e w r (m, y)
-      by_end (Some e) = refl
-      by_end None = moved-deaf m (begun r) s h
+      by_end : (e : Option RunEnd) → (is_none e && (not (is_idle S r) && next_looks w r)) ≡ false → step_unless e w r (S, x) ≡ step_unless e w r (S, y)
+      by_end (Some e) h = refl
+      by_end None h = in-deaf r.shadow.state (begun r) h
+  step-deaf r T s h = by_end r.end h
+    where
+      by_end : (e : Option RunEnd) → (is_none e && (not (is_idle T r) && next_looks w r)) ≡ false → step_unless e w r (T, x) ≡ step_unless e w r (T, y)
+      by_end (Some e) h = refl
+      by_end None h = while-deaf r.stalled (begun r) h
+  step-deaf r O s h = elim s [ ]
+  step-deaf r D s h = elim s [ ]
 
 -- ---- the law
 

@@ -9,11 +9,14 @@ pub mod OwnLaws
 pub mod Demand
 pub mod Gets
 pub mod Progress
+pub mod Rounds
 pub mod OneCall
 pub mod LogChanges
 pub mod LogRows
 pub mod Passage
+pub mod Stops
 pub mod Held
 pub mod Text
 pub mod HeldRuns
 pub mod Offsets
+pub mod StubEnds

@@ -9,30 +9,9 @@ use Rattle.rv_model.specs.Memory.{Memory, all_from}
 use Rattle.rv_model.specs.Arithmetic.{signed}
 use Rattle.program_model.specs.Descriptors.{Descriptor, Free, Null, Out, Err, File, Descriptors, slot, with_slot, start_of, lowest_free, EINVAL}
 use Rattle.program_model.specs.Calls.{CallPlan, Set, Look, Read, Write, Exit, CallKind, Open, OpenAt, Close, Seek, ReadFile, WriteFile, ExitProgram, Break, Unknown, Named, Refused, Whole, name_at, look_if_free, open_named, open_plan, close_plan, seek_base, moved_to, seek_from, seek_plan, read_count, read_if, read_plan, put_if, write_plan, break_plan, plan_by, opened, opened_at, advanced, after_read, key_of}
+use Rattle.run_laws.specs.Numbers.{Fits, AllFit, Lawful}
 
 -- ---- descriptors
-
--- what a file's descriptor has to be
-abbrev FitsIn : Descriptor → Type 0
-FitsIn (File name size offset) = (size < 2 ^ 56) × (offset < 2 ^ 56)
-FitsIn Free = ⊤
-FitsIn Null = ⊤
-FitsIn Out = ⊤
-FitsIn Err = ⊤
-
--- size and offset of a file are below 2^56
-pub record Fits (x : Descriptor) : Type 0 where
-  pub by : FitsIn x
-
--- each of these descriptors fits
-abbrev pub AllFit : List Descriptor → Type 0
-AllFit [] = ⊤
-AllFit (x ∷ xs) = Fits x × AllFit xs
-
--- there are 32, and each fits
-pub record Lawful (f : Descriptors) : Type 0 where
-  pub count : length f.slots ≡ 32
-  pub each : AllFit f.slots
 
 -- a descriptor that takes another's place leaves their number
 length-slice_set : (xs : List Descriptor) (i : ℕ) (x : Descriptor) → length (slice_set xs i x) ≡ length xs

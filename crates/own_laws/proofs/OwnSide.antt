@@ -289,9 +289,9 @@ module _ (w : World) where
   -- each word of the stub leads to a stage
   stub-goes : (t : Tally) (q : State) (k : ℕ) (r r' : Run) → AtCall w t q → left k ≤ 64 → WordGoes q t k r.cache r.shared r.shadow.state r' → OwnSide w (side_of r')
   stub-goes t q k r r' g most (to_row l x29 x30 x31 page row is less same held) = in_stub t q l x29 x30 x31 page g row (omega (arith, less, most)) is
-  stub-goes t q k r r' g most (to_restarted c page s is less same full left) =
+  stub-goes t q k r r' g most (to_restarted c page s is less same full left runs) =
       in_stub (restarted_tally q t) q 71 _ _ c page (after_restart t q g) (w71 s) (omega (arith, less, most)) is
-  stub-goes t q k r r' g most (to_call page is less same left) = at_call t q page g is
+  stub-goes t q k r r' g most (to_call page is less same left f goes) = at_call t q page g is
 
   module _ (accepted : Accepted w) where
     -- each own move leads from a stage to a stage

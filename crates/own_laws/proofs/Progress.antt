@@ -35,9 +35,9 @@ FetchComes ms r = HasFetch ms ⊎ (r.stalled ≡ false)
 module _ (w : World) (accepted : Accepted w) where
   -- ---- what is kept
 
-  record Keeps (r : Run) : Type 0 where
-    side : OwnSide w (side_of r)
-    demand : r.end ≡ None → Demand r
+  pub record Keeps (r : Run) : Type 0 where
+    pub side : OwnSide w (side_of r)
+    pub demand : r.end ≡ None → Demand r
 
   -- what is demanded after a move
   demand-after : (r r' : Run) (m : Move) → Moved r r' m → r'.end ≡ None → Demand r'
@@ -51,7 +51,7 @@ module _ (w : World) (accepted : Accepted w) where
   step-ended r m x e z = ap (λ end. step_unless end w r (m, x)) z
 
   -- a step keeps it
-  keeps : (r : Run) (m : Move) (x : Answer) → Keeps r → Keeps (step w r (m, x))
+  pub keeps : (r : Run) (m : Move) (x : Answer) → Keeps r → Keeps (step w r (m, x))
   keeps r m x k = record { side = step-goes w accepted r m x k.side; demand = λ z. by_end r.end refl z }
     where
       by_end : (e : Option RunEnd) → r.end ≡ e → (step w r (m, x)).end ≡ None → Demand (step w r (m, x))
@@ -242,6 +242,11 @@ module _ (w : World) (accepted : Accepted w) where
       by_done rest mid k d (inl o) = inl o
       by_done rest mid k (inl o) (inr l) = inl (over_stays rest mid k o)
       by_done rest mid k (inr n) (inr l) = inr (omega (arith, n, l))
+
+-- it is so where a run begins
+pub start-keeps : (w : World) (a : Accepted w) → Keeps w a (opened_run w)
+unfolding run_from
+start-keeps w a = record { side = own_side w a []; demand = λ z. record { same = refl; room = λ e. false_true e } }
 
 -- in every run that goes on, the own hart is stalled exactly where a block is demanded, and then its read has fewer than 17 blocks
 pub run-demand : (w : World) → Accepted w → (ms : Moves) → (run w ms).end ≡ None → Demand (run w ms)

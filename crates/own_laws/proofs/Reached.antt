@@ -8,7 +8,8 @@ use Rattle.run_model.specs.Run.{World}
 use Rattle.run_laws.specs.OwnLaws.{Accepted, counts_of}
 use Rattle.spec_base.specs.Layout.{image_limit}
 use Rattle.program_model.specs.Calls.{key_of}
-use Rattle.own_laws.proofs.Offsets.{Lawful, start-lawful, key-small}
+use Rattle.run_laws.specs.Numbers.{Lawful}
+use Rattle.own_laws.proofs.Offsets.{start-lawful, key-small}
 use Rattle.own_laws.proofs.Bounds.{Sized, reached-sized, plan-fits}
 use Rattle.own_laws.proofs.Side.{Tally}
 

@@ -1,17 +1,18 @@
 -- The stub on the own side, by rows: what is known at each word, and that each word leads to the next row, or to the call.
-use Rattle.std.proofs.Common.{◌≡◌, ℕ, ◌+◌, ◌-◌, ◌*◌, ◌%◌, ◌^◌, ◌≤◌, ◌<◌, ◌⊎◌, inl, inr, Bool, true, false, not, refl, ◌∙◌, ap, sym, subst, ◌==◌, arith, bit_and, nat_le, lit<, suc, add-one}
+use Rattle.std.proofs.Common.{◌≡◌, ℕ, ◌+◌, ◌-◌, ◌*◌, ◌%◌, ◌^◌, ◌≤◌, ◌<◌, ◌⊎◌, inl, inr, Bool, true, false, not, refl, ◌∙◌, ap, sym, subst, ◌==◌, arith, bit_and, nat_le, lit<, lit≤, suc, add-one}
 use Rattle.std.proofs.lemmas.Nat.{and_mask}
 use Rattle.std.proofs.lemmas.Bool.{cases_lt}
 use Rattle.std.proofs.lemmas.Bool.Decides.{nat_tests}
 use Rattle.spec_base.specs.Word.{wrap, byte_of}
 use Rattle.spec_base.specs.declared.note.ShadowState.{ShadowState}
+use Rattle.spec_base.specs.declared.note.ShadowState.TheVariants.{Running}
 use Rattle.rv_model.specs.Memory.{Memory, stored, loaded}
 use Rattle.rv_model.specs.Registers.{Registers}
 use Rattle.program_model.specs.PlainRun.{State}
 use Rattle.program_model.specs.Cache.{Cache}
 use Rattle.run_model.specs.Run.{World, Run, Answer}
-use Rattle.own_laws.proofs.Held.{boxing, level, Held, same, head, stopped_first, HeldOn, frees, stays, level-register}
-use Rattle.own_laws.proofs.LogChanges.{head-emptied, tail-emptied, empty-box_stored, BoxedTo, site_boxed, register_boxed}
+use Rattle.own_laws.proofs.Held.{boxing, level, Held, IsFree, IsHalted, IsHeadless, IsBoxing, same, head, stopped_first, HeldOn, frees, stays, level-register, store-leaves_box}
+use Rattle.own_laws.proofs.LogChanges.{tail-head_stored, head-emptied, tail-emptied, empty-box_stored, BoxedTo, site_boxed, register_boxed}
 use Rattle.rv_model.proofs.Loads.{loaded-stored, loaded-above_patch}
 use Rattle.own_laws.proofs.Side.{side_of, with_side, Tally}
 use Rattle.own_laws.proofs.StubWords.{three, three-own, three-low, stub_side, at, restarted_tally, branched, after_word, linked, stopped, boxed_in, InLog, word_1, word_2, word_3, word_4, word_5, word_6, word_7, word_8, word_9, word_10, word_11, word_12, word_13, word_14, word_15, word_16, word_17, word_18, word_19, word_20, word_21, word_22, word_23, word_24, word_25, word_28, word_29, word_30, word_31, word_32, word_33, word_34, word_35, word_36, word_37-66, word_67, word_68, word_69, word_70, word_71}
@@ -94,8 +95,9 @@ pub data WordGoes (q : State) (t : Tally) (k : ℕ) (cache : Cache) (m : Memory)
   to_row : (l a b c : ℕ) (page : Memory) → Row q l a b c page → side_of next ≡ stub_side q t l (three q.registers a b c) page → left l < left k → next.cache ≡ cache
       → HeldOn q k l m next.shared s next.shadow.state → WordGoes q t k cache m s next
   to_restarted : (c : ℕ) (page : Memory) → Saved31 page q.registers → side_of next ≡ stub_side q (restarted_tally q t) 71 (three q.registers (q.registers 29) (q.registers 30) c) page
-      → left 71 < left k → next.cache ≡ cache → (Held q (level k) m s → Held q (boxing 31) m s) → next.shared ≡ m → WordGoes q t k cache m s next
-  to_call : (page : Memory) → side_of next ≡ stub_side q t 26 q.registers page → left 26 < left k → next.cache ≡ cache → next.shared ≡ m → WordGoes q t k cache m s next
+      → left 71 < left k → next.cache ≡ cache → (Held q (level k) m s → Held q (boxing 31) m s) → next.shared ≡ m
+      → next.shadow.state ≡ Running → WordGoes q t k cache m s next
+  to_call : (page : Memory) → side_of next ≡ stub_side q t 26 q.registers page → left 26 < left k → next.cache ≡ cache → next.shared ≡ m → IsFree (level k) → next.shadow.state ≡ s → WordGoes q t k cache m s next
 
 -- ---- saves
 
@@ -170,7 +172,15 @@ module _ (w : World) (x : Answer) (q : State) (t : Tally) (fits : (n : ℕ) → 
   -- one register more is in the box
   register_held : (r : Run) (j : ℕ) → j < 30 → (l : ℕ) → boxing (suc j) ≡ level l
       → HeldOn q (37 + j) l r.shared (boxed_in w x q t r (q.registers 29) (q.registers 30) j).shared r.shadow.state r.shadow.state
-  register_held r j h l more = record { held = λ g. by_box (full g); change = λ g. stopped_first (full g).0 }
+  register_held r j h l more =
+      record {
+        held = λ g. by_box (full g);
+        change = λ g. stopped_first (full g).0;
+        lets_go = λ g. absurd (subst (λ v. IsFree v) (sym more) g);
+        quiet = λ g. absurd (subst (λ v. IsHalted v) (sym more) g);
+        tail = λ g. absurd (subst (λ v. IsHeadless v) (sym more) g);
+        box = inl (subst (λ v. IsBoxing v) more tt);
+      }
     where
       shared : Memory
       shared = (boxed_in w x q t r (q.registers 29) (q.registers 30) j).shared
@@ -231,24 +241,45 @@ module _ (w : World) (x : Answer) (q : State) (t : Tally) (fits : (n : ℕ) → 
   word_goes r _ a b c page (w20 s) = to r r 20 21 _ _ c page (word_20 w x q t r a 0 c page) (w21 s) (lit< tt) refl (frees refl refl)
   word_goes r _ a b c page (w21 s) = to r r 21 22 _ _ c page (word_21 w x q t r a _ c page) (w22 s) (lit< tt) refl (frees refl refl)
   word_goes r _ a b c page (w22 s) = to r (linked w x q t r 0x4200_0000 a) 22 23 a _ c page (word_22 w x q t r a 0 c page) (w23 s) (lit< tt) refl
-      (record { held = λ h. tt; change = λ h. head a refl })
+      (record { held = λ h. tt; change = λ h. head a refl; lets_go = λ h. (tt, refl); quiet = λ h. absurd h; tail = λ h. absurd h; box = inr (λ b. b, store-leaves_box r.shared 0x4200_0000 a (lit≤ tt)) })
   word_goes r _ a b c page (w23 s) = to r r 23 24 _ b c page (word_23 w x q t r a b c page) (subst (λ n. Row q 24 n b c page) (sym s.x29) (w24 (record { x31 = s.x31; x30 = s.x30 }))) (lit< tt) refl (frees refl refl)
   word_goes r _ a b c page (w24 s) = to r r 24 25 _ _ c page (word_24 w x q t r _ b c page) (subst (λ n. Row q 25 (q.registers 29) n c page) (sym s.x30) (w25 s.x31)) (lit< tt) refl (frees refl refl)
   word_goes r _ a b c page (w25 s) =
       subst (λ n. Leads 25 r n)
       (sym (word_25 w x q t r _ _ c page ∙ ap (λ n. at q t r 26 (q.registers 29) (q.registers 30) n page) s ∙ ap (λ rs. with_side r (stub_side q t 26 rs page)) (three-own q.registers)))
-      (to_call page refl (lit< tt) refl refl)
+      (to_call page refl (lit< tt) refl refl tt refl)
   word_goes r _ a b c page (w28 s) = to r (stopped w x q t r) 28 29 a b c page (word_28 w x q t r a b c page) (w29 s) (lit< tt) refl
-      (record { held = λ h. refl; change = λ h. same refl })
+      (record { held = λ h. refl; change = λ h. same refl; lets_go = λ h. absurd h; quiet = λ h. (λ e. e, refl); tail = λ h. refl; box = inr (λ b. b, λ a l. refl) })
   word_goes r _ a b c page (w29 s) = to r r 29 30 a _ c page (word_29 w x q t r a b c page) (w30 s) (lit< tt) refl (stays refl)
   word_goes r _ a b c page (w30 s) = to r (linked w x q t r 0x4200_0000 0) 30 31 a _ c page (word_30 w x q t r a 0 c page) (w31 s) (lit< tt) refl
-      (record { held = λ h. (h, head-emptied r.shared); change = λ h. stopped_first h })
+      (record {
+        held = λ h. (h, head-emptied r.shared);
+        change = λ h. stopped_first h;
+        lets_go = λ h. absurd h;
+        quiet = λ h. absurd h;
+        tail = λ h. tail-head_stored r.shared 0;
+        box = inr (λ b. b, store-leaves_box r.shared 0x4200_0000 0 (lit≤ tt));
+      })
   word_goes r _ a b c page (w31 s) = to r (linked w x q t r 0x4200_0008 0) 31 32 a _ c page (word_31 w x q t r a 0 c page) (w32 s) (lit< tt) refl
-      (record { held = λ h. (h.0, tail-emptied r.shared h.1); change = λ h. stopped_first h.0 })
+      (record {
+        held = λ h. (h.0, tail-emptied r.shared h.1);
+        change = λ h. stopped_first h.0;
+        lets_go = λ h. absurd h;
+        quiet = λ h. absurd h;
+        tail = λ h. absurd h;
+        box = inr (λ b. b, store-leaves_box r.shared 0x4200_0008 0 (lit≤ tt));
+      })
   word_goes r _ a b c page (w32 s) = to r r 32 33 a b _ page (word_32 w x q t r a b c page) (w33 s) (lit< tt) refl (stays refl)
   word_goes r _ a b c page (w33 s) = to r r 33 34 a _ _ page (word_33 w x q t r a b _ page) (w34 s) (lit< tt) refl (stays refl)
   word_goes r _ a b c page (w34 s) = to r (linked w x q t r 0x4200_1000 q.pc) 34 35 a _ _ page (word_34 w x q t r a q.pc 0 page) (w35 s) (lit< tt) refl
-      (record { held = λ h. (h.0, empty-box_stored r.shared 0x4200_1000 q.pc (omega arith) h.1, site_boxed r.shared q.pc q.registers place); change = λ h. stopped_first h.0 })
+      (record {
+        held = λ h. (h.0, empty-box_stored r.shared 0x4200_1000 q.pc (omega arith) h.1, site_boxed r.shared q.pc q.registers place);
+        change = λ h. stopped_first h.0;
+        lets_go = λ h. absurd h;
+        quiet = λ h. absurd h;
+        tail = λ h. absurd h;
+        box = inl tt;
+      })
   word_goes r _ a b c page (w35 s) = to r r 35 36 a _ _ page (word_35 w x q t r a b _ page) (subst (λ n. Row q 36 a n 0x4200_1000 page) (sym s.x30) (w36 s)) (lit< tt) refl (stays refl)
   word_goes r _ a b c page (w36 s) =
       to r r 36 (37 + 0) _ _ _ page (word_36 w x q t r a _ _ page)
@@ -257,7 +288,14 @@ module _ (w : World) (x : Answer) (q : State) (t : Tally) (fits : (n : ℕ) → 
   word_goes r _ a b c page (w37-66 j h s) = next_register r j page h s (cases_lt (j + 1) 30)
   word_goes r _ a b c page (w67 s) = to r r 67 68 _ _ _ page (word_67 w x q t r _ _ _ page) (subst (λ n. Row q 68 (q.registers 29) n 0x4200_1000 page) (sym s.x31) (w68 s)) (lit< tt) refl (stays refl)
   word_goes r _ a b c page (w68 s) = to r (linked w x q t r 0x4200_10F8 (q.registers 31)) 68 69 _ _ _ page (word_68 w x q t r _ _ 0 page) (w69 s) (lit< tt) refl
-      (record { held = λ h. (h.0, empty-box_stored r.shared 0x4200_10F8 (q.registers 31) (omega arith) h.1, register_boxed r.shared q.pc q.registers 30 (fits 31) h.2); change = λ h. stopped_first h.0 })
+      (record {
+        held = λ h. (h.0, empty-box_stored r.shared 0x4200_10F8 (q.registers 31) (omega arith) h.1, register_boxed r.shared q.pc q.registers 30 (fits 31) h.2);
+        change = λ h. stopped_first h.0;
+        lets_go = λ h. absurd h;
+        quiet = λ h. absurd h;
+        tail = λ h. absurd h;
+        box = inl tt;
+      })
   word_goes r _ a b c page (w69 s) = to r r 69 70 _ _ _ page (word_69 w x q t r _ b _ page) (subst (λ n. Row q 70 (q.registers 29) n 0x4200_1000 page) (sym s.x30) (w70 s.x31)) (lit< tt) refl (stays refl)
-  word_goes r _ a b c page (w70 s) = subst (λ n. Leads 70 r n) (sym (word_70 w x q t r _ _ c page)) (to_restarted c page s refl (lit< tt) refl (λ h. h) refl)
+  word_goes r _ a b c page (w70 s) = subst (λ n. Leads 70 r n) (sym (word_70 w x q t r _ _ c page)) (to_restarted c page s refl (lit< tt) refl (λ h. h) refl refl)
   word_goes r _ a b c page (w71 s) = to r r 71 25 _ _ c page (word_71 w x q t r _ _ c page) (w25 s) (lit< tt) refl (frees refl refl)

@@ -1,5 +1,5 @@
 -- Each word of a call's block, and of APPEND, leads to its next row, to the next block, or to a park.
-use Rattle.std.proofs.Common.{◌≡◌, ℕ, ◌+◌, ◌-◌, ◌*◌, ◌%◌, ◌^◌, ◌<◌, ◌≤◌, true, false, ◌==◌, pos, negsuc, refl, ◌∙◌, ap, ap₂, sym, arith, bit_and}
+use Rattle.std.proofs.Common.{◌≡◌, ℕ, ◌+◌, ◌-◌, ◌*◌, ◌%◌, ◌^◌, ◌<◌, ◌≤◌, true, false, ◌==◌, pos, negsuc, refl, ◌∙◌, ap, ap₂, sym, arith, bit_and, ◌&&◌, not}
 use Rattle.std.proofs.lemmas.Bool.Decides.{nat_tests}
 use Rattle.std.proofs.lemmas.Nat.{and_mask}
 use Rattle.spec_base.specs.Word.{wrap, plus_int, byte_of}
@@ -21,7 +21,7 @@ use Rattle.side_model.specs.Rows.{Led, on, leaps, arrives, takes_link, puts_link
 use Rattle.side_model.proofs.Numbers.{TextFits, text-fits}
 use Rattle.side_model.proofs.JumpWords.{forks}
 use Rattle.rows_log.specs.Queue.{HasRoom, leaves, puts_key, puts_count, raises_tail, Takes}
-use Rattle.rows_log.specs.CallRows.{IsSite, Stage, Before, Headed, Room, HasKey, HasPair, Appended, AtStage, Settled, keyless, keyed, pair_place, CallRow, b1, b2, b3, b4, b5, b6, a1, a2, a3, a4, a5, a6, a7, a8, a9, a10, a11, a12, a13, a14, a15, a16, a17, a18, a19, a20, a21, a22, a23, a24, full, is_early, keeps_key, finds_key, is_headed, HeadStep, finds_head, keeps_head, no_head, CallNext, word, call, LogIsFull, CallStarts, CallLeads, StagesStay, CalledArrives}
+use Rattle.rows_log.specs.CallRows.{IsSite, Stage, Before, Headed, Room, HasKey, HasPair, Appended, AtStage, Settled, keyless, keyed, pair_place, CallRow, b1, b2, b3, b4, b5, b6, a1, a2, a3, a4, a5, a6, a7, a8, a9, a10, a11, a12, a13, a14, a15, a16, a17, a18, a19, a20, a21, a22, a23, a24, full, before_key, keeps_key, finds_key, is_headed, HeadStep, finds_head, keeps_head, no_head, CallNext, word, call, LogIsFull, CallStarts, CallLeads, StagesStay, CalledArrives}
 use Rattle.rows_log.proofs.QueueLaws.{tail-above, room-above, taking-keeps}
 
 -- ---- numbers
@@ -87,9 +87,9 @@ module _ (l : Layout) (p : ℕ) (q : Regs) (tail key : ℕ) (program : Memory) (
   returns = omega (arith, is.above, is.below, text.few)
 
   -- the next row, with this key and the memory as it is
-  next : {from place : Place} {rs : Regs} {s : Priv} {t : Tabs} {m : Memory} {k : ℕ} {at stage : Stage} → is_early from ≡ is_early place → HeadStep m at stage → row place rs s stage k → AtStage tail count stage m
+  next : {from place : Place} {rs : Regs} {s : Priv} {t : Tabs} {m : Memory} {k : ℕ} {at stage : Stage} → (before_key from && not (before_key place)) ≡ false → HeadStep m at stage → row place rs s stage k → AtStage tail count stage m
       → CallNext l p q tail key from at t m place rs s t m k
-  next early head r a = word key _ r a (keeps_key early) head (leaves refl)
+  next same head r a = word key _ r a (keeps_key same) head (leaves refl)
 
   -- ---- the pair
 
@@ -121,7 +121,7 @@ module _ (l : Layout) (p : ℕ) (q : Regs) (tail key : ℕ) (program : Memory) (
   call-words m ok small (b3 s) a = leaps (InHelper Appending 0) refl (on (next refl (no_head refl) (a1 s) a) ok refl refl)
   call-words m ok small (a1 s) a = on (next refl (no_head refl) (a2 s) a) ok refl refl
   call-words m ok small (a2 s) a = on (next refl (no_head refl) (a3 s) a) ok refl refl
-  call-words m ok small (a3 s) a = keys (λ found k. on (word found Before (a4 s) a (finds_key found k refl) (no_head refl) (leaves refl)) ok refl refl)
+  call-words m ok small (a3 s) a = keys (λ found k. on (word found Before (a4 s) a (finds_key found k) (no_head refl) (leaves refl)) ok refl refl)
   call-words m ok small (a4 s) a =
       forks (key == 0)
       (λ e. leaps (InHelper Appending 22) refl (on (next refl (no_head refl) (a23 s (keyless e)) a) ok refl refl))

@@ -1,5 +1,5 @@
 -- The rows of a call's block, and of the helper APPEND, which appends a keyed read to the hint log (this project's own).
-use Rattle.std.specs.Prelude.{ℕ, ◌+◌, ◌-◌, ◌*◌, ◌%◌, ◌^◌, ◌≡◌, ◌≤◌, ◌<◌, Bool, true, false, ◌==◌, nat_lt, negsuc, IsTrue}
+use Rattle.std.specs.Prelude.{ℕ, ◌+◌, ◌-◌, ◌*◌, ◌%◌, ◌^◌, ◌≡◌, ◌≤◌, ◌<◌, true, false, ◌==◌, negsuc, IsTrue, Bool, ◌&&◌, not, nat_lt}
 use Rattle.spec_base.specs.Word.{plus_int}
 use Rattle.spec_base.specs.Layout.{is_lawful, helpers_start, link_start}
 use Rattle.spec_base.specs.declared.layout.Layout.{Layout}
@@ -127,16 +127,16 @@ module _ (l : Layout) (p : ℕ) (q : Regs) (tail key : ℕ) where
 
 -- ---- what a word leads to
 
--- the words up to HKEY, which is word 3 of APPEND
-abbrev pub is_early : Place → Bool
-is_early (InBlock n) = nat_lt n 4
-is_early (InHelper Appending n) = nat_lt n 3
-is_early _ = false
+-- up to HKEY, word 3 of APPEND, the call's key isn't known
+abbrev pub before_key : Place → Bool
+before_key (InBlock n) = nat_lt n 4
+before_key (InHelper Appending n) = nat_lt n 3
+before_key _ = false
 
--- only HKEY finds a key, which is in x31 then
-pub data KeyStep (key : ℕ) (rs : Regs) : Place → Place → ℕ → Type 0 where
-  keeps_key : {from to : Place} → is_early from ≡ is_early to → KeyStep key rs from to key
-  finds_key : (found : ℕ) → found < 2 ^ 64 → get 31 rs ≡ found → KeyStep key rs (InHelper Appending 2) (InHelper Appending 3) found
+-- from one place to the next: only HKEY finds a key, and it alone leads to where the key is known
+pub data KeyStep (key : ℕ) : Place → Place → ℕ → Type 0 where
+  keeps_key : {from place : Place} → (before_key from && not (before_key place)) ≡ false → KeyStep key from place key
+  finds_key : (found : ℕ) → found < 2 ^ 64 → KeyStep key (InHelper Appending 2) (InHelper Appending 3) found
 
 -- only word 9 of APPEND finds a head, which is the log's
 abbrev pub is_headed : Stage → Bool
@@ -151,13 +151,13 @@ pub data HeadStep (m : Memory) : Stage → Stage → Type 0 where
 -- from a word at this place, with this key, this stage, these tables and this memory: to the next row, with the tables as they are; or, by the HCALL, to the word behind it, with an answer in x10 and whatever the call leaves
 pub data CallNext (l : Layout) (p : ℕ) (q : Regs) (tail key : ℕ) (from : Place) (at : Stage) (t : Tabs) (m : Memory) : Place → Regs → Priv → Tabs → Memory → ℕ → Type 0 where
   word : {place : Place} {rs : Regs} {s : Priv} {m' : Memory} {k : ℕ} (found : ℕ) (stage : Stage) → CallRow l p q tail found place rs s stage k → AtStage tail (get 12 q) stage m'
-      → KeyStep key rs from place found → HeadStep m at stage → LogStep (get 12 q) from m m' → CallNext l p q tail key from at t m place rs s t m' k
+      → KeyStep key from place found → HeadStep m at stage → LogStep (get 12 q) from m m' → CallNext l p q tail key from at t m place rs s t m' k
   call : {s : Priv} {t' : Tabs} {m' : Memory} (answer : ℕ) → from ≡ InBlock 6 → answer < 2 ^ 64 → CallNext l p q tail key from at t m (InBlock 7) (put 10 answer q) s t' m' 1
 
 -- it parks at LOGFULL only where the call has a key and the log had 64 pairs as its head was loaded
 pub record LogIsFull (key : ℕ) (from : Place) (at : Stage) (t : Tabs) (m : Memory) (cause : Park) (t' : Tabs) (m' : Memory) : Type 0 where
   pub parks : cause ≡ park.LogFull
-  pub late : is_early from ≡ false
+  pub late : before_key from ≡ false
   pub keyed : (key == 0) ≡ false
   pub head : ℕ
   pub loaded : at ≡ Headed head

@@ -1,5 +1,5 @@
 -- What is promised of the shadow: its hints are the next reads, its words are bounded, and it follows the run from the restart.
-use Rattle.std.specs.Prelude.{ℕ, ◌+◌, ◌-◌, ◌*◌, ◌/◌, ◌%◌, nat_le, slice_get, ◌≡◌, ◌≤◌, ◌<◌, ◌⊎◌, Bool, true, false, ◌&&◌, not, List, nat_lt, ◌==◌, if◌then◌else◌, Option, Some, None, IsTrue}
+use Rattle.std.specs.Prelude.{ℕ, ◌+◌, ◌-◌, ◌*◌, ◌/◌, ◌%◌, nat_le, slice_get, ◌≡◌, ◌≢◌, ◌≤◌, ◌<◌, ◌⊎◌, Bool, true, false, ◌&&◌, not, List, [], nat_lt, ◌==◌, if◌then◌else◌, Option, Some, None, IsTrue}
 use Rattle.spec_base.specs.declared.note.ShadowState.{ShadowState}
 use Rattle.spec_base.specs.declared.note.ShadowState.TheVariants.{Never, Running, Stopped, Parked}
 use Rattle.rv_model.specs.Rights.{is_data}
@@ -94,3 +94,10 @@ HintsUntilUse =
 -- the first use is never before the horizon
 abbrev pub UseIsAfterHorizon : Type 0
 UseIsAfterHorizon = (w : World) → Accepted w → (ms : Moves) (i : ℕ) → let r = run w ms in IsTrue (before_horizon w r i) → IsTrue (before_use w r i)
+
+-- ---- the premises are met
+
+-- the laws speak of something: of an accepted program, one of whose runs follows its restart before the horizon and has given hints
+abbrev pub HintsAreMet : Type 0
+HintsAreMet =
+    (w : World) × (ms : Moves) × Accepted w × IsFollowing (run w ms) × IsTrue (before_horizon w (run w ms) (run w ms).since.shadow) × ((run w ms).since.hints ≢ [])

@@ -1,6 +1,7 @@
+pub mod Completes
 pub mod OwnLaws
 pub mod HintLaws
 pub mod StubLaws
-pub mod Completes
+pub mod Numbers
 pub mod SoundLaws
 pub mod LogLaws

@@ -1,5 +1,5 @@
 -- What is promised of the program itself: preservation, invisible shadow, bounded regions, progress, and that the own side follows the run from the restart.
-use Rattle.std.specs.Prelude.{ℕ, zero, suc, ◌+◌, ◌*◌, ◌%◌, ◌^◌, ◌≡◌, ◌≤◌, ◌<◌, ◌⊎◌, ⊤, Bool, true, false, ◌&&◌, List, [], ◌∷◌, ◌++◌, length, Option, Some, None, IsSome, IsTrue, All}
+use Rattle.std.specs.Prelude.{ℕ, zero, suc, ◌+◌, ◌*◌, ◌%◌, ◌^◌, ◌≡◌, ◌≤◌, ◌<◌, ◌⊎◌, ⊤, Bool, true, false, ◌&&◌, not, List, [], ◌∷◌, ◌++◌, length, map, Option, Some, None, is_none, IsSome, IsTrue, All, Contains}
 use Rattle.spec_base.specs.Files.{Name}
 use Rattle.spec_base.specs.Layout.{is_lawful, image_limit}
 use Rattle.spec_base.specs.declared.machine.View.{View}
@@ -9,10 +9,12 @@ use Rattle.spec_base.specs.declared.note.Move.TheVariants.{O, S, T, D}
 use Rattle.rv_model.specs.Memory.{Memory}
 use Rattle.program_model.specs.Descriptors.{start_of}
 use Rattle.program_model.specs.Calls.{CallPlan, Set, Look, Read, Write, Exit}
-use Rattle.program_model.specs.PlainRun.{State, Output, Image, Taken, plain_state, End, Exited, TrapsAt, GoesOn, end_of}
+use Rattle.program_model.specs.Loading.{nothing_put}
+use Rattle.program_model.specs.PlainRun.{State, Image, Taken, plain_state, End, Exited, TrapsAt, GoesOn, end_of}
 use Rattle.code_model.specs.Regions.{slots_in_use}
 use Rattle.run_model.specs.Run.{World, Run, RunEnd, Exits, Traps, StoreFailed, SinkFailed, Answer, Usual, Took, Failed, Lost}
-use Rattle.run_model.specs.Moves.{Moves, step, run}
+use Rattle.run_model.specs.Moves.{Moves, is_idle, step, run}
+use Rattle.run_model.specs.Patterns.{Pattern, one_round, pattern_moves}
 use Rattle.run_model.specs.ShadowMoves.{fetch_shadow, shadow_plan, is_call_word}
 use Rattle.run_model.specs.Restarts.{from_restart}
 
@@ -21,10 +23,6 @@ use Rattle.run_model.specs.Restarts.{from_restart}
 -- each number is a byte
 abbrev pub AllBytes : List ℕ → Type 0
 AllBytes bytes = All (λ b. b < 256) bytes
-
--- nothing was put
-abbrev pub no_output : Output
-no_output = record { bytes = []; puts = [] }
 
 -- a program that was loaded from an accepted file, and files. What is asked of its start is true of each loaded program
 pub record Accepted (w : World) : Type 0 where
@@ -36,7 +34,7 @@ pub record Accepted (w : World) : Type 0 where
   pub files : (name : Name) (bytes : List ℕ) → w.files name ≡ Some bytes → (length bytes < 2 ^ 56) × AllBytes bytes
   pub descriptors : (break_start : ℕ) × (w.image.start.files ≡ start_of break_start (image_limit w.image.layout.version))
   pub fresh : w.image.start.exited ≡ None
-  pub silent : (w.image.start.out ≡ no_output) × (w.image.start.err ≡ no_output)
+  pub silent : (w.image.start.out ≡ nothing_put) × (w.image.start.err ≡ nothing_put)
 
 -- ---- preservation
 
@@ -113,15 +111,19 @@ is_look (Write to_out a n) = false
 is_look (Exit code) = false
 
 -- the shadow's next word assumes a call that looks in the store
-abbrev pub asks_for_look : World → Run → Bool
-asks_for_look w r = is_call_word (fetch_shadow w r.shadow.pc) && is_look (shadow_plan w r)
+abbrev pub next_looks : World → Run → Bool
+next_looks w r = is_call_word (fetch_shadow w r.shadow.pc) && is_look (shadow_plan w r)
+
+-- a move makes that word: the run goes on, and the move isn't idle
+abbrev pub asks_for_look : World → Run → Move → Bool
+asks_for_look w r m = is_none r.end && (not (is_idle m r) && next_looks w r)
 
 -- at every run, a move of the shadow leaves all that is the program's, puts nothing, and hears nothing from the outside but whether a look that it asks for has failed
 pub record IsInvisible (w : World) (r : Run) (m : Move) (x : Answer) : Type 0 where
   pub leaves : own_part (step w r (m, x)) ≡ own_part r
   pub puts_nothing : (step w r (m, x)).text ≡ []
   pub hears_failure_alone : (y : Answer) → has_failed x ≡ has_failed y → step w r (m, x) ≡ step w r (m, y)
-  pub hears_looks_alone : (y : Answer) → asks_for_look w r ≡ false → step w r (m, x) ≡ step w r (m, y)
+  pub hears_looks_alone : (y : Answer) → asks_for_look w r m ≡ false → step w r (m, x) ≡ step w r (m, y)
 
 -- every move of the shadow is invisible
 abbrev pub ShadowIsInvisible : Type 0
@@ -159,6 +161,13 @@ Stretches (suc n) ms = (first : Moves) × (rest : Moves) × (ms ≡ first ++ res
 -- 200 stretches an instruction are enough
 abbrev pub Progress : Type 0
 Progress = (w : World) → Accepted w → (q : ℕ) (ms : Moves) → Stretches (200 * q) ms → IsSome (run w ms).end ⊎ (q ≤ (run w ms).own_done)
+
+-- a pattern that has an own move and a fetch: 200 rounds an instruction are enough
+abbrev pub RoundsProgress : Type 0
+RoundsProgress =
+    (w : World) → Accepted w → (pattern : Pattern) → let round = one_round pattern in Contains round O → Contains round D →
+    (q : ℕ) (ms : Moves) → map (λ m. m.0) ms ≡ pattern_moves pattern (length ms) → 200 * q * length round ≤ length ms →
+    IsSome (run w ms).end ⊎ (q ≤ (run w ms).own_done)
 
 -- ---- the own side follows the run from the restart
 

@@ -1,4 +1,4 @@
-mod Samples
+pub mod Samples
 mod Rows
 mod TraceRows
 mod FillRows

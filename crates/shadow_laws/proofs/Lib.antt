@@ -9,4 +9,7 @@ pub mod LinkSteps
 pub mod LoggedSteps
 pub mod LogMoves
 pub mod LogRuns
+pub mod Queues
+pub mod Boxes
 pub mod SoundWords
+pub mod CallLog

@@ -18,7 +18,7 @@ use Rattle.side_model.specs.Sees.{Shade, shade_of}
 use Rattle.rows_log.specs.CallRows.{IsSite}
 use Rattle.rows_log.specs.Queue.{Takes}
 use Rattle.rows_log.proofs.QueueLaws.{head-takes, taking-keeps}
-use Rattle.shadow_laws.proofs.LoggedSteps.{logged_calls, Appending, logged-appends, logged-steps, logged-stays}
+use Rattle.shadow_laws.proofs.LoggedSteps.{logged_calls, LeavesBox, Appending, logged-appends, logged-steps, logged-stays}
 use Rattle.shadow_laws.proofs.OwnShades.{Watched, watched_of, OwnShade, same, links, halts, begins}
 use Rattle.shadow_laws.proofs.ShadowNumbers.{Sized, stock_of}
 use Rattle.shadow_laws.proofs.ShadowRuns.{HasTables, restart-sound, resting-stays}
@@ -30,10 +30,19 @@ pub record Logged (w : World) (h : Shade) (k : ℕ) : Type 0 where
   pub place : h.hart.state ≡ Running → (n : ℕ) × Sound w (logged_calls w) h n
   pub queue : h.hart.state ≢ Stopped → IsQueue h.shared × (log_tail h.shared ≤ k)
 
--- a move of the shadow keeps this, and only appends
+-- a move of the shadow only appends, and leaves the box
+pub record Grows (m m' : Memory) : Type 0 where
+  pub appends : Appends m m'
+  pub box : LeavesBox m m'
+
+-- it keeps the rest
 pub record ShadowMoved (w : World) (r next : Run) (k : ℕ) : Type 0 where
   pub logged : Logged w (shade_of next) (k + 1)
-  pub appends : Appends r.shared next.shared
+  pub grows : Grows r.shared next.shared
+
+-- nothing is appended
+pub Grows-same : (m : Memory) → log_tail m < 2 ^ 64 → Grows m m
+Grows-same m h = record { appends = Appends-same m h; box = record { at = λ a g u. refl } }
 
 module _ (w : World) (a : Accepted w) where
   -- the tail is a number of 64 bits
@@ -59,16 +68,16 @@ module _ (w : World) (a : Accepted w) where
       where
         by_landing : {n : ℕ} → IsQueue r.shared × (log_tail r.shared ≤ k) → Appending r.shared moved.shared → Lands w (logged_calls w) n (shade_of moved) → ShadowMoved w r moved k
         by_landing q y (goes j less s) =
-            record { logged = record { place = λ e. (j, s); queue = λ n. (y.keeps.queue, omega (arith, y.one, q.1)) }; appends = y.keeps.appends }
+            record { logged = record { place = λ e. (j, s); queue = λ n. (y.keeps.queue, omega (arith, y.one, q.1)) }; grows = record { appends = y.keeps.appends; box = y.box } }
         by_landing q y (reaches p b e j most s) =
-            record { logged = record { place = λ e. (j, s); queue = λ n. (y.keeps.queue, omega (arith, y.one, q.1)) }; appends = y.keeps.appends }
+            record { logged = record { place = λ e. (j, s); queue = λ n. (y.keeps.queue, omega (arith, y.one, q.1)) }; grows = record { appends = y.keeps.appends; box = y.box } }
         by_landing q y (landing.halts cause state t has ok) =
-            record { logged = record { place = λ e. parked_running (sym state ∙ e); queue = λ n. (y.keeps.queue, omega (arith, y.one, q.1)) }; appends = y.keeps.appends }
+            record { logged = record { place = λ e. parked_running (sym state ∙ e); queue = λ n. (y.keeps.queue, omega (arith, y.one, q.1)) }; grows = record { appends = y.keeps.appends; box = y.box } }
 
     resting-moves : r.shadow.state ≢ Running → ShadowMoved w r moved k
     resting-moves n =
         subst (λ (y : Run). ShadowMoved w r y k) (sym (resting-stays w a x r r.shadow.state refl n))
-        (record { logged = one-more (shade_of r) k g; appends = Appends-same r.shared (tail-small r z) })
+        (record { logged = one-more (shade_of r) k g; grows = Grows-same r.shared (tail-small r z) })
 
     -- a word of the shadow, if it runs
     pub shadow-moves : ShadowMoved w r moved k

@@ -20,7 +20,7 @@ use Rattle.run_model.specs.OwnMoves.{own_step, own_unless, own_in, own_call_step
 use Rattle.run_model.specs.Moves.{Moves, step, step_unless, begun, silent, run, run_from, fetch_of, fetch_ends, fetch_failed, landed_with, shadow_while}
 use Rattle.run_laws.specs.OwnLaws.{Accepted, IsShadowMove}
 use Rattle.run_model.specs.ShadowMoves.{shadow_step}
-use Rattle.run_laws.specs.StubLaws.{Appends, IsLog, IsLeaving, Passing, TakesOldest, RestartsFromBox, IsPassage, Outcome, keyless, takes, empties, without_oldest}
+use Rattle.run_laws.specs.StubLaws.{Appends, IsLog, IsLeaving, Passing, TakesOldest, RestartsFromBox, IsPassage, Outcome, keyless, takes, empties, without_oldest, leaves}
 use Rattle.own_laws.proofs.HeldRuns.{restart_has_box}
 use Rattle.own_laws.proofs.InvisibleShadow.{shadow_move-keeps}
 use Rattle.own_laws.proofs.LogChanges.{Appends-same, tail-head_stored}
@@ -35,8 +35,8 @@ use Rattle.own_laws.proofs.StubRows.{WordGoes, to_row, to_restarted, to_call, wo
 use Rattle.own_laws.proofs.Bounds.{Words}
 use Rattle.side_model.specs.Sees.{Shade, shade_of}
 use Rattle.rows_log.specs.CallRows.{IsSite}
-use Rattle.run_laws.specs.LogLaws.{LogIsQueue, ShadowAppends, StaysInStub, LogIsKept}
-use Rattle.shadow_laws.proofs.LogMoves.{Logged, ShadowMoved, one-more, shadow-moves, same-logged, own-logged, tail-small}
+use Rattle.run_laws.specs.LogLaws.{ShadowAppends, StaysInStub, LogIsKept}
+use Rattle.shadow_laws.proofs.LogMoves.{Grows, Grows-same, Logged, ShadowMoved, one-more, shadow-moves, same-logged, own-logged, tail-small}
 use Rattle.shadow_laws.proofs.OwnShades.{Watched, watched_of, OwnShade, same, links, halts, begins, own-shade, fetch-shade, program_at-shade}
 use Rattle.shadow_laws.proofs.ShadowNumbers.{Sized, stock_of, run-sized}
 use Rattle.shadow_laws.proofs.ShadowRuns.{has-tables, run-keeps, gate-site, run-snoc, zeros-loaded}
@@ -59,12 +59,12 @@ passing-snoc w r [] m h v f = (h, f, v)
 passing-snoc w r (n ∷ on) m h v f = (h.0, h.1, passing-snoc w (step w r n) on m h.2 v f)
 
 -- what becomes of a log in a passage is in order
-outcome-log : {q : State} {key count : ℕ} {before after : Memory} {asked : Bool} → IsLog before → Outcome q key count before asked after → IsLog after
+outcome-log : {J : Memory → Type 0} {R : Type 0} {q : State} {key count : ℕ} {before after : Memory} {asked : Bool} → IsLog before → Outcome J R q key count before asked after → IsLog after
 outcome-log g (keyless k f) = record { order = omega (arith, f.head, f.tail, g.order); below = f.below }
-outcome-log g (takes judged k j o f) =
+outcome-log g (takes judged t k j o f) =
     let head : log_head (without_oldest judged) ≡ log_head judged + 1 = loaded-stored judged 0x4200_0000 (log_head judged + 1) (omega (arith, j.below, o.some)) in
     record { order = omega (arith, f.head, head, f.tail, tail-head_stored judged (log_head judged + 1), o.some); below = f.below }
-outcome-log g (empties judged emptied k j n e b f) = record { order = omega (arith, f.head, e.head); below = f.below }
+outcome-log g (empties judged emptied t z k j n e b f) = record { order = omega (arith, f.head, e.head); below = f.below }
 
 -- ---- views
 
@@ -119,8 +119,8 @@ module _ (w : World) (a : Accepted w) where
     where
       goes : {A : Type 0} {next : Run} → next.view ≡ Program → WordGoes q t k r.cache r.shared r.shadow.state next → A
       goes p (to_row l b c d page row is less cache on) = program_stub (sym p ∙ ap (λ p. p.view) is)
-      goes p (to_restarted c page s is less cache full e) = program_stub (sym p ∙ ap (λ p. p.view) is)
-      goes p (to_call page is less cache e) = program_stub (sym p ∙ ap (λ p. p.view) is)
+      goes p (to_restarted c page s is less cache full e running) = program_stub (sym p ∙ ap (λ p. p.view) is)
+      goes p (to_call page is less cache e f still) = program_stub (sym p ∙ ap (λ p. p.view) is)
   leaves-stub x r z (at_call t q page g is) v p =
       placed w (λ r. (own_step w x r).view ≡ Program → IsLeaving r × ((own_step w x r).shared ≡ r.shared)) r _ is (λ p. program_stub (sym p ∙ own_call-view w x (with_side r (stub_side q t 26 q.registers page)) (plan w q))) p
   leaves-stub x r z (waits t q page g is) v p = placed w (λ r. (own_step w x r).view ≡ Program → IsLeaving r × ((own_step w x r).shared ≡ r.shared)) r _ is (λ p. program_stub (sym p)) p
@@ -245,7 +245,7 @@ module _ (w : World) (a : Accepted w) where
         subst (λ (y : Run). Words y.shadow.registers) (run-is before (n, x) few inv ∙ is) (run-sized w a then).registers in
         let y : ShadowMoved w (begun here) (shadow_step w x (begun here)) (length before) = shadow-moves w a x (begun here) (length before) (run-sized w a before) words few inv.0 in
         with-logged before (n, x) few inv (subst (λ (y : Run). Logged w (shade_of y) (length before + 1)) (sym is) y.logged)
-        (stays-at v (subst (λ (y : Run). Appends here.shared y.shared) (sym is) y.appends) inv.1)
+        (stays-at v (subst (λ (y : Run). Appends here.shared y.shared) (sym is) y.grows.appends) inv.1)
 
     -- a move that leaves the shadow
     still-inv : shade_of there ≡ shade_of here → there.view ≡ here.view → Inv then
@@ -321,7 +321,7 @@ module _ (w : World) (a : Accepted w) where
         left-log v =
             let l = leaves-stub x (begun (run w before)) z (own_side w a before) in-stub (ap (λ (y : Run). y.view) (sym is-own) ∙ v) in
             let leaving : IsLeaving (run w before) = record { view = l.0.view; word = l.0.word; goes_on = z } in
-            let passage : IsPassage w gate (run_from w gate on) = stub_keeps_log w a ms y on p g h (subst (λ (y : Run). IsLeaving y) (sym e) leaving) in
+            let passage : IsPassage w gate on (run_from w gate on) = stub_keeps_log w a ms y on p g h (subst (λ (y : Run). IsLeaving y) (sym e) leaving) in
             let gate-log : IsLog gate.shared = subst (λ (m : Memory). IsLog m) (sym (gate-shared y (run w ms) p)) g in
             let leave-log : IsLog (run_from w gate on).shared = outcome-log gate-log passage.log in
             subst (λ (m : Memory). IsLog m) (ap (λ (y : Run). y.shared) e ∙ sym (ap (λ (y : Run). y.shared) is-own ∙ l.1)) leave-log
@@ -395,31 +395,42 @@ module _ (w : World) (a : Accepted w) where
 
   -- ---- the moves of the shadow
 
-  appends-at : (ms : Moves) (n : Move) (x : Answer) → IsShadowMove n → length ms < 2 ^ 64 - 1 → Appends (run w ms).shared (step w (run w ms) (n, x)).shared
-  appends-at ms n x s few = by_end (run w ms).end refl n s
+  pub grows-at : (ms : Moves) (n : Move) (x : Answer) → IsShadowMove n → length ms < 2 ^ 64 - 1 → Grows (run w ms).shared (step w (run w ms) (n, x)).shared
+  grows-at ms n x s few = by_end (run w ms).end refl n s
     where
       r : Run
       r = run w ms
 
-      none : (y : Run) → y.shared ≡ r.shared → Appends r.shared y.shared
-      none y e = subst (λ (m : Memory). Appends r.shared m) (sym e) (Appends-same r.shared (tail-small w a r (run-sized w a ms)))
+      none : (y : Run) → y.shared ≡ r.shared → Grows r.shared y.shared
+      none y e = subst (λ (m : Memory). Grows r.shared m) (sym e) (Grows-same r.shared (tail-small w a r (run-sized w a ms)))
 
-      moves : (n : Move) → step w r (n, x) ≡ shadow_step w x (begun r) → Appends r.shared (step w r (n, x)).shared
+      moves : (n : Move) → step w r (n, x) ≡ shadow_step w x (begun r) → Grows r.shared (step w r (n, x)).shared
       moves n is =
           let words : Words (shade_of (shadow_step w x (begun r))).hart.registers =
           subst (λ (y : Run). Words y.shadow.registers) (run-snoc w a (opened_run w) ms (n, x) ∙ is) (run-sized w a (ms ++ (n, x) ∷ [])).registers in
-          subst (λ (y : Run). Appends r.shared y.shared) (sym is) (shadow-moves w a x (begun r) (length ms) (run-sized w a ms) words few (run-inv ms few).0).appends
+          subst (λ (y : Run). Grows r.shared y.shared) (sym is) (shadow-moves w a x (begun r) (length ms) (run-sized w a ms) words few (run-inv ms few).0).grows
 
-      by_stall : (b : Bool) → r.stalled ≡ b → r.end ≡ None → Appends r.shared (step w r (T, x)).shared
+      by_stall : (b : Bool) → r.stalled ≡ b → r.end ≡ None → Grows r.shared (step w r (T, x)).shared
       by_stall true e z = moves T (ap (λ (e : Option RunEnd). step_unless e w r (T, x)) z ∙ ap (λ (b : Bool). shadow_while b w x (begun r)) e)
       by_stall false e z = none (step w r (T, x)) (ap (λ (y : Run). y.shared) (ap (λ (e : Option RunEnd). step_unless e w r (T, x)) z ∙ ap (λ (b : Bool). shadow_while b w x (begun r)) e))
 
-      by_end : (e : Option RunEnd) → r.end ≡ e → (n : Move) → IsShadowMove n → Appends r.shared (step w r (n, x)).shared
+      by_end : (e : Option RunEnd) → r.end ≡ e → (n : Move) → IsShadowMove n → Grows r.shared (step w r (n, x)).shared
       by_end (Some e) z n s = none (step w r (n, x)) (ap (λ (o : Option RunEnd). (step_unless o w r (n, x)).shared) z)
       by_end None z S s = moves S (ap (λ (e : Option RunEnd). step_unless e w r (S, x)) z)
       by_end None z T s = by_stall r.stalled refl z
       by_end None z O s = absurd s
       by_end None z D s = absurd s
+
+  -- ---- the own moves
+
+  -- each leaves what is shared, takes the oldest pair, or finds the shadow stopped
+  pub took-at : (before : Moves) (x : Answer) → length before < 2 ^ 64 - 1 → TakesOldest (run w before) (step w (run w before) (O, x))
+  took-at before x few = by_place (run-inv before few).1
+    where
+      by_place : OwnAt w before → TakesOldest (run w before) (step w (run w before) (O, x))
+      by_place (in_view p g) = leaves (gate-shared x (run w before) p)
+      by_place (passes ms y on e p g h) = subst (λ (y : Run). TakesOldest y (step w y (O, x))) e (stub_takes_oldest w a ms y on x p g h)
+      by_place (is_over e z) = leaves (ap (λ (o : Option RunEnd). (step_unless o w (run w before) (O, x)).shared) z)
 
   -- where a gate is met, the log is in order
   log-at : (ms : Moves) (x : Answer) → OwnAt w ms → (run w ms).view ≡ Program → (step w (run w ms) (O, x)).view ≡ Stub → IsLog (run w ms).shared
@@ -437,19 +448,15 @@ module _ (w : World) (a : Accepted w) where
   stays-passing before [] r e few h = h
   stays-passing before (m ∷ on) r e few h = (
     h.0,
-    λ s. subst (λ (y : Run). Appends y.shared (step w y m).shared) e (appends-at before m.0 m.1 s (omega (arith, few))),
+    λ s. subst (λ (y : Run). Appends y.shared (step w y m).shared) e (grows-at before m.0 m.1 s (omega (arith, few))).appends,
     stays-passing (before ++ m ∷ []) on (step w r m) (run-snoc w a (opened_run w) before m ∙ ap (λ (y : Run). step w y m) e) (omega (arith, few, length-append before (m ∷ []))) h.1,
   )
 
 -- ---- the laws
 
--- the log is a queue
-pub log_is_queue : LogIsQueue
-log_is_queue w a ms few n = ((run-inv w a ms few).0.queue n).0
-
 -- the shadow appends to it
 pub shadow_appends : ShadowAppends
-shadow_appends w a ms m x s few = appends-at w a ms m x s few
+shadow_appends w a ms m x s few = (grows-at w a ms m x s few).appends
 
 -- a passage through the stub keeps it
 pub log_is_kept : LogIsKept

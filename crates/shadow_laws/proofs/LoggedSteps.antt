@@ -1,6 +1,6 @@
 -- While the hint log is a queue, each word of the shadow leads on with the pair that a call appends, keeps the queue, and only appends to it.
 use Rattle.std.proofs.Common.{◌≡◌, ℕ, ◌+◌, ◌-◌, ◌^◌, ◌<◌, ◌≤◌, ◌⊎◌, inl, inr, true, false, Some, refl, ◌∙◌, ap, sym, subst, arith, lit<}
-use Rattle.spec_base.specs.Layout.{link_start}
+use Rattle.spec_base.specs.Layout.{link_start, table_start}
 use Rattle.spec_base.specs.declared.layout.Layout.{Layout}
 use Rattle.rv_decode.specs.declared.instr.Instr.{Instr}
 use Rattle.rv_decode.specs.declared.instr.Instr.TheVariants.{Ecall, Hcall}
@@ -8,7 +8,7 @@ use Rattle.rv_model.specs.Memory.{Memory, stored}
 use Rattle.rv_model.specs.Space.{program_byte}
 use Rattle.rv_model.proofs.Loads.{loaded-stored}
 use Rattle.code_model.specs.Blocks.{block}
-use Rattle.code_model.specs.Log.{log_tail, log_place, IsQueue}
+use Rattle.code_model.specs.Log.{log_tail, log_place, IsQueue, box_start}
 use Rattle.code_model.specs.Places.{block_at}
 use Rattle.run_model.specs.Run.{World, Run, Answer, rewritten_words}
 use Rattle.run_model.specs.ShadowMoves.{shadow_step}
@@ -25,7 +25,7 @@ use Rattle.rows_log.specs.CallRows.{IsSite, Stage, Before, AtStage, CallRow, Key
 use Rattle.rows_log.specs.LinkWords.{stores_out}
 use Rattle.rows_log.specs.Queue.{LogStep, leaves, puts_key, puts_count, raises_tail, KeepsQueue, LeavesLink, Takes}
 use Rattle.rows_log.proofs.CallWords.{call_leads, call_starts, called_arrives, stages-stay}
-use Rattle.rows_log.proofs.QueueLaws.{steps-keep, leaving-keeps, loaded-left, loaded-apart}
+use Rattle.rows_log.proofs.QueueLaws.{steps-keep, steps-leave_box, leaving-keeps, loaded-left, loaded-apart}
 use Rattle.shadow_laws.proofs.ShadowNumbers.{Sized, stock_of}
 use Rattle.shadow_laws.proofs.Sound.{CallRows, Starts, At, Sound, calling, Lands}
 use Rattle.shadow_laws.proofs.SoundSteps.{landed, settles, next, sound-steps, sound-stays}
@@ -50,9 +50,9 @@ logged-starts w h queue small p q s t e =
 -- ---- what a word leads to
 
 -- a key that was there, or is found, is a number of 64 bits
-key-small : {key found : ℕ} {rs : Regs} {from to : Place} → key < 2 ^ 64 → KeyStep key rs from to found → found < 2 ^ 64
-key-small h (keeps_key early) = h
-key-small h (finds_key found small is) = small
+pub key-small : {key found : ℕ} {from place : Place} → key < 2 ^ 64 → KeyStep key from place found → found < 2 ^ 64
+key-small h (keeps_key same) = h
+key-small h (finds_key found small) = small
 
 -- the next row
 next-row : {l : Layout} {p : ℕ} {q : Regs} {tail key : ℕ} {from place : Place} {rs : Regs} {s : Priv} {t t' : Tabs} {m m' : Memory} {k : ℕ} {at : Stage} → key < 2 ^ 64 → get 12 q < 2 ^ 64
@@ -68,17 +68,22 @@ log-step (call answer from h) = inr from
 
 -- ---- what a word does to the log
 
--- it keeps the queue, only appends, and this at most one pair
+-- the box is left, with all behind it up to the table
+pub record LeavesBox (m m' : Memory) : Type 0 where
+  pub at : (a : ℕ) → box_start ≤ a → a < table_start → m' a ≡ m a
+
+-- it keeps the queue, only appends, and this at most one pair; and it leaves the box
 pub record Appending (m m' : Memory) : Type 0 where
   pub keeps : KeepsQueue m m'
   pub one : log_tail m' ≤ log_tail m + 1
+  pub box : LeavesBox m m'
 
 module _ (m m' : Memory) (queue : IsQueue m) (small : log_tail m < 2 ^ 64 - 1) where
   -- all is left
   pub leaving-appends : LeavesLink m m' → Appending m m'
   leaving-appends f =
       let same : log_tail m' ≡ log_tail m = loaded-left m m' f (link_start + 8) 8 (omega arith) in
-      record { keeps = leaving-keeps m m' queue (omega (arith, small)) f; one = omega (arith, same) }
+      record { keeps = leaving-keeps m m' queue (omega (arith, small)) f; one = omega (arith, same); box = record { at = λ a h u. f a u } }
 
   -- a store of a pair leaves the tail
   tail-left : (a v : ℕ) → link_start + 16 ≤ a → log_tail (stored m a 8 v) ≡ log_tail m
@@ -92,7 +97,7 @@ module _ (m m' : Memory) (queue : IsQueue m) (small : log_tail m < 2 ^ 64 - 1) w
 
   -- a word of a call
   step-appends : (count : ℕ) (place : Place) → LogStep count place m m' → Appending m m'
-  step-appends count place step = record { keeps = steps-keep count place m m' queue small step; one = most step }
+  step-appends count place step = record { keeps = steps-keep count place m m' queue small step; one = most step; box = record { at = λ a h u. steps-leave_box count place m m' step a h } }
 
 -- ---- each word
 

@@ -38,8 +38,10 @@ use Rattle.run_model.specs.OwnMoves.{program_after, program_at, stub_after, stub
 use Rattle.run_model.specs.ShadowMoves.{fetch_shadow, is_running, is_arrival, arrived_if, shadow_plan, assumed, assumed_with, look_assumed, hint_given, fill_if, is_filled, shadow_gate, shadow_stores, shadow_after, shadow_at_word, shadow_in}
 use Rattle.run_model.specs.Moves.{Moves, step, step_unless, moved, begun, run, run_from, fetch_of, fetch_ends, fetch_failed, landed_with, shadow_while}
 use Rattle.run_laws.specs.OwnLaws.{Accepted, AllBytes}
+use Rattle.run_laws.specs.SoundLaws.{RunsAreSized}
 use Rattle.own_laws.proofs.Bounds.{Words, with_reg-words, FileBytes}
-use Rattle.own_laws.proofs.Offsets.{Lawful, PlanFits, plan_by-fits, opened-lawful, after_read-lawful, start-lawful, key-small}
+use Rattle.run_laws.specs.Numbers.{Lawful, IsSized}
+use Rattle.own_laws.proofs.Offsets.{PlanFits, plan_by-fits, opened-lawful, after_read-lawful, start-lawful, key-small}
 use Rattle.rv_model.proofs.Results.{Bytes, load-small, imm_result-small, imm_w_result-small, reg_result-small, reg_w_result-small, wrap-small, word_of_int-small}
 
 -- ---- bytes
@@ -500,3 +502,16 @@ run-sized w a ms =
     let lawful : Lawful w.image.start.files = subst (λ f. Lawful f) (sym (a.descriptors).1) (start-lawful (a.descriptors).0 (image_limit w.image.layout.version)) in
     run_from-keeps w a.files ms (opened_run w)
     (record { own_memory = a.memory; own_files = lawful; registers = λ i. lit< tt; files = lawful; page = λ i. lit< tt; shared = λ i. lit< tt })
+
+-- ---- the law
+
+-- the numbers of a run, and those of its parts here
+pub sized-of : (r : Run) → IsSized r → Sized (stock_of r)
+sized-of r z = record { own_memory = z.own_memory; own_files = z.own_files; registers = z.registers; files = z.files; page = z.page; shared = z.shared }
+
+pub of-sized : (r : Run) → Sized (stock_of r) → IsSized r
+of-sized r z = record { own_memory = z.own_memory; own_files = z.own_files; registers = z.registers; files = z.files; page = z.page; shared = z.shared }
+
+-- every run has such numbers
+pub runs_are_sized : RunsAreSized
+runs_are_sized w a ms = of-sized (run w ms) (run-sized w a ms)

@@ -116,11 +116,11 @@ after-counts w x r (Gated i) = gate-counts w x r i
 after-counts w x r Called = refl
 
 -- one word more is counted, and an arrival where the shadow runs at word 1 of a block
-record Counted (w : World) (r next : Run) : Type 0 where
-  words : next.since.words ≡ r.since.words + 1
-  regions : next.since.regions ≡ r.since.regions
-  most : r.since.shadow ≤ next.since.shadow
-  arrives : next.shadow.state ≡ Running → is_arrival w.image.layout next.shadow.pc ≡ true → next.since.shadow ≡ r.since.shadow + 1
+pub record Counted (w : World) (r next : Run) : Type 0 where
+  pub words : next.since.words ≡ r.since.words + 1
+  pub regions : next.since.regions ≡ r.since.regions
+  pub most : r.since.shadow ≤ next.since.shadow
+  pub arrives : next.shadow.state ≡ Running → is_arrival w.image.layout next.shadow.pc ≡ true → next.since.shadow ≡ r.since.shadow + 1
 
 arrived-counted : (w : World) (r y : Run) (b : Bool) → counts_of y ≡ counts_of r → (is_running y.shadow.state && is_arrival w.image.layout y.shadow.pc) ≡ b → Counted w r (word_counted (arrived_if b y))
 arrived-counted w r y true e f =
@@ -147,7 +147,7 @@ word-counted w x r (Some i) =
     let e : Effect = effect Shadow (shadow_rights w.image.layout) (shadow_sees w.image.layout (rewritten_words w) r.own.memory r.shared r.shadow_page) r.shadow.registers r.shadow.pc i in
     arrived-counted w r (shadow_after w x r e) _ (after-counts w x r e) refl
 
-running-counted : (w : World) (x : Answer) (r : Run) → r.shadow.state ≡ Running → Counted w r (shadow_step w x r)
+pub running-counted : (w : World) (x : Answer) (r : Run) → r.shadow.state ≡ Running → Counted w r (shadow_step w x r)
 running-counted w x r e = subst (λ s. Counted w r (shadow_in s w x r)) (sym e) (word-counted w x r (fetch_shadow w r.shadow.pc))
 
 -- ---- what is so of the shadow
@@ -234,7 +234,7 @@ module _ (w : World) (a : Accepted w) where
   -- ---- an own move
 
   -- a state that is about to call stands at an instruction of the text
-  call-site : (q : State) → ((i : Instr) → fetched (text_of w.image) l.text_start q.pc ≡ Some i → IsSite l q.pc)
+  pub call-site : (q : State) → ((i : Instr) → fetched (text_of w.image) l.text_start q.pc ≡ Some i → IsSite l q.pc)
   call-site q i e = by_test (nat_le l.text_start q.pc && (q.pc % 4 == 0)) refl e
     where
       by_test : (b : Bool) → (nat_le l.text_start q.pc && (q.pc % 4 == 0)) ≡ b → elim b [ true ↦ slice_get (text_of w.image) ((q.pc - l.text_start) / 4) | false ↦ None ] ≡ Some i → IsSite l q.pc

@@ -23,7 +23,7 @@ use Rattle.side_model.proofs.Private.{priv_of, HasPriv-of}
 use Rattle.side_model.proofs.Registers as low
 use Rattle.side_model.proofs.Registers.{HasRegs-of, HasRegs-put}
 use Rattle.rows_log.specs.RestartRows.{saved, RestartedRow, r49}
-use Rattle.shadow_laws.proofs.ShadowNumbers.{Sized, stock_of}
+use Rattle.shadow_laws.proofs.ShadowNumbers.{Sized, stock_of, sized-of, of-sized}
 use Rattle.shadow_laws.proofs.Sound.{At, bare, Target, target-of, site-is}
 use Rattle.shadow_laws.proofs.TextBlocks.{InText, text}
 use Rattle.hint_laws.proofs.Within.{goes_to, behind, answered, unboxing}
@@ -37,7 +37,6 @@ use Rattle.shadow_walk.specs.Restarts as again
 use Rattle.shadow_walk.specs.Restarts.{StandsAnswered, StandsRestarted, StandsOn, kept_x31, LeavesOwn, Returns, ReturnsAtOnce}
 use Rattle.shadow_walk.specs.declared.walking.Walked.TheVariants as walked
 use Rattle.shadow_walk.proofs.Told.{Tells}
-use Rattle.shadow_walk.proofs.OnTheWay.{sized-of, of-sized}
 use Rattle.shadow_walk.proofs.LogWords.{call-there}
 use Rattle.shadow_walk.proofs.WalkRows.{within-some}
 use Rattle.shadow_walk.proofs.WalkWords.{shown-register}

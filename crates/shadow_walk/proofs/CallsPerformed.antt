@@ -28,7 +28,7 @@ use Rattle.mark_laws.specs.Agreement.{Agrees, SeesAlike, HasAll, CallLeads, assu
 use Rattle.mark_laws.specs.Sizes.{TrueSizes}
 use Rattle.mark_laws.proofs.OneCall.{plan_agrees, call_agrees}
 use Rattle.mark_laws.proofs.Sizes.{states_find_all}
-use Rattle.shadow_laws.proofs.ShadowNumbers.{in-keeps}
+use Rattle.shadow_laws.proofs.ShadowNumbers.{in-keeps, sized-of, of-sized}
 use Rattle.hint_laws.proofs.Followed.{view_in}
 use Rattle.hint_laws.proofs.FilledViews as seen
 use Rattle.hint_laws.proofs.FilledViews.{SharedBehind, shared-behind}
@@ -37,7 +37,7 @@ use Rattle.shadow_walk.specs.Walks.{StandsAtCall}
 use Rattle.shadow_walk.specs.Restarts.{StandsAnswered}
 use Rattle.shadow_walk.specs.Performed.{fills, is_left, HasStateBut, Performs, goes_on, exits, fails, CallsArePerformed}
 use Rattle.shadow_walk.proofs.LogWords.{call-there}
-use Rattle.shadow_walk.proofs.OnTheWay.{sized-of, of-sized, call-unmarked, use-none}
+use Rattle.shadow_walk.proofs.OnTheWay.{call-unmarked, use-none}
 
 -- ---- states
 

@@ -1,5 +1,5 @@
 -- The words of a call's block and of APPEND, by the log: up to the HCALL a call with a key has joined it, where there was room for a pair; it parks at LogFull where 64 pairs wait.
-use Rattle.std.proofs.Common.{◌≡◌, ℕ, ◌+◌, ◌-◌, ◌^◌, ◌<◌, ◌≤◌, ◌⊎◌, inl, inr, Bool, true, false, ◌&&◌, Option, Some, None, refl, ◌∙◌, ap, sym, subst, arith}
+use Rattle.std.proofs.Common.{◌≡◌, ℕ, ◌+◌, ◌-◌, ◌^◌, ◌<◌, ◌≤◌, ◌⊎◌, inl, inr, Bool, true, false, ◌&&◌, Option, Some, None, refl, ◌∙◌, ap, sym, subst, arith, not, ◌==◌}
 use Rattle.std.proofs.lemmas.Bool.Decides.{nat_tests}
 use Rattle.spec_base.specs.declared.layout.Layout.{Layout}
 use Rattle.spec_base.specs.declared.note.ShadowState.{ShadowState}
@@ -35,12 +35,13 @@ use Rattle.side_model.specs.Tables.{HasTabs}
 use Rattle.code_model.specs.Tables.{Tabs, TableOk}
 use Rattle.rows_log.specs.Queue.{HasRoom}
 use Rattle.rows_log.specs.CallRows as row
-use Rattle.rows_log.specs.CallRows.{IsSite, Stage, Before, Headed, Room, HasKey, HasPair, Appended, AtStage, Settled, keyless, keyed, CallRow, is_early, is_headed, KeyStep, keeps_key, finds_key, HeadStep, finds_head, keeps_head, no_head, CallNext, LogIsFull}
+use Rattle.rows_log.specs.CallRows.{IsSite, Stage, Before, Headed, Room, HasKey, HasPair, Appended, AtStage, Settled, keyless, keyed, CallRow, before_key, is_headed, KeyStep, keeps_key, finds_key, HeadStep, finds_head, keeps_head, no_head, CallNext, LogIsFull}
 use Rattle.rows_log.proofs.CallWords.{call_leads, call_starts}
 use Rattle.rows_log.proofs.QueueLaws.{steps-keep}
 use Rattle.mark_laws.proofs.OneInstruction.{true_false}
 use Rattle.shadow_laws.proofs.ShadowNumbers.{Sized, stock_of}
 use Rattle.shadow_laws.proofs.Sound.{At, parked_running, site-is}
+use Rattle.shadow_laws.proofs.LoggedSteps.{key-small}
 use Rattle.shadow_laws.proofs.SoundSteps.{landed}
 use Rattle.shadow_laws.proofs.TextBlocks.{InText, text, at-address}
 use Rattle.hint_laws.proofs.Spots.{InstructionStands, instr-stands}
@@ -83,6 +84,23 @@ head-found {m} finds_head head e = (let f : log_head m ≡ head = cc in inl (sym
 head-found (keeps_head h) head e = inr e
 head-found (no_head u) head e = false_true (sym u ∙ ap is_headed e)
 
+-- ---- the key
+
+-- behind HKEY it is in x31
+abbrev is_fourth : Place → Bool
+is_fourth (InHelper Appending n) = n == 3
+is_fourth _ = false
+
+key-there : {l : Layout} {p : ℕ} {g : Regs} {tail key : ℕ} {place : Place} {rs : Regs} {s : Priv} {stage : Stage} {n : ℕ} → CallRow l p g tail key place rs s stage n → is_fourth place ≡ true → get 31 rs ≡ key
+key-there (row.a4 s) e = refl
+key-there _ e = false_true e
+
+-- once it is known it stays so
+known : (b d : Bool) → (b && not d) ≡ false → d ≡ false → b ≡ false
+known true true e f = f
+known true false e f = e
+known false d e f = refl
+
 -- ---- a call under way
 
 -- rows of the call of the state q, where the log's tail was this at word 1 and the call has this key and this stage
@@ -100,7 +118,7 @@ pub record OnCall (w : World) (r : Run) (q : State) (y : Run) : Type 0 where
   pub at : At w (block_at w.image.layout q.pc) (block w.image.layout q.pc Ecall) (LoggingRow w.image.layout q.pc g (log_tail r.shared) key stage) (shade_of y) left
   pub head : log_head y.shared ≡ log_head r.shared
   pub headed : (head : ℕ) → stage ≡ Headed head → head ≡ log_head r.shared
-  pub keyed : is_early at.point.place ≡ false → key ≡ key_of (plan_of w.image.layout q)
+  pub keyed : before_key at.point.place ≡ false → key ≡ key_of (plan_of w.image.layout q)
 
 -- at word 1 it is
 pub log-starts : (w : World) (a : Accepted w) (r : Run) (q : State) → instr_at w.image q ≡ Some Ecall → r.shadow.pc ≡ block_at w.image.layout q.pc + 4 → r.shadow.state ≡ Running → (t : Tabs) → HasTabs w.image.layout r.shared t → TableOk w.image.layout t
@@ -189,13 +207,10 @@ module _ (w : World) (a : Accepted w) (x : Answer) (r : Run) (q : State) (call :
 
   -- ---- the next word
 
-  key-next : (from to : Place) (rs : Regs) (found : ℕ) → from ≡ point.place → HasRegs next.shadow.registers rs → KeyStep on.key rs from to found → is_early to ≡ false → found ≡ key_of (plan_of l q)
-  key-next from to rs found e has (keeps_key same) late = on.keyed (ap is_early (sym e) ∙ same ∙ late)
-  key-next _ to rs found e has (finds_key k few is) late = sym is ∙ sym (has.at 31) ∙ key-put (fetched-at (InHelper Appending 2) (Hkey 31) e refl)
-
-  key-few : (from to : Place) (rs : Regs) (found : ℕ) → KeyStep on.key rs from to found → found < 2 ^ 64
-  key-few from to rs found (keeps_key same) = on.small
-  key-few _ to rs found (finds_key k few is) = few
+  key-next : (from to : Place) (rs : Regs) (s : Priv) (found : ℕ) (stage : Stage) (n : ℕ) → from ≡ point.place → HasRegs next.shadow.registers rs → CallRow l q.pc on.g tail found to rs s stage n → KeyStep on.key from to found
+      → before_key to ≡ false → found ≡ key_of (plan_of l q)
+  key-next from to rs s found stage n e has at (keeps_key same) late = on.keyed (ap before_key (sym e) ∙ known (before_key from) (before_key to) same late)
+  key-next _ _ rs s found stage n e has at (finds_key k few) late = sym (key-there at refl) ∙ sym (has.at 31) ∙ key-put (fetched-at (InHelper Appending 2) (Hkey 31) e refl)
 
   pub log-next : is_call_word (fetch_shadow w y.shadow.pc) ≡ false → next.shadow.state ≡ Running → OnCall w r q next
   log-next quiet runs = by_landed lands
@@ -209,7 +224,7 @@ module _ (w : World) (a : Accepted w) (x : Answer) (r : Run) (q : State) (call :
             key = found;
             stage = stage;
             left = k;
-            small = key-few point.place s.place s.regs found key_step;
+            small = key-small on.small key_step;
             at = record {
               code = on.at.code;
               point = s;
@@ -219,7 +234,7 @@ module _ (w : World) (a : Accepted w) (x : Answer) (r : Run) (q : State) (call :
             };
             head = ap log_head v.shared ∙ left ∙ on.head;
             headed = λ head e. by_head head (head-found head_step head e);
-            keyed = key-next point.place s.place s.regs found refl v.regs key_step;
+            keyed = key-next point.place s.place s.regs s.priv found stage k refl v.regs next_row key_step;
           }
         where
           by_head : (head : ℕ) → (head ≡ log_head y.shared) ⊎ (on.stage ≡ Headed head) → head ≡ log_head r.shared
@@ -275,7 +290,7 @@ module _ (w : World) (a : Accepted w) (x : Answer) (r : Run) (q : State) (call :
           walk.joins (grind (arith, nat_tests, e, key)) (omega (arith, s.1, queue.most, on.head)) s.1 (s.2 ∙ (λ i. (key i, count-is i)))
 
       at-spot : CallSpot point.place on.key on.stage → Logs (key_of (plan_of l q)) (r.shadow.registers 12) r.shared y.shared
-      at-spot (at_call sixth done) = settled on.stage done on.at.row.1 (on.keyed (ap is_early sixth))
+      at-spot (at_call sixth done) = settled on.stage done on.at.row.1 (on.keyed (ap before_key sixth))
       at-spot (at_key third) = absurd (let g : Some (Hkey 31) ≡ Some (Hcall false) = sym (fetched-at (InHelper Appending 2) (Hkey 31) (sym third) refl) ∙ f in cc)
 
       other-word : (o : Option Instr) → code l (block l q.pc Ecall) point.place ≡ o → is_other o ≡ true → ⊥

@@ -6,7 +6,6 @@ use Rattle.rv_decode.specs.declared.instr.Instr.{Instr}
 use Rattle.rv_decode.specs.declared.instr.Instr.TheVariants.{Lui, Auipc, Jal, Jalr, Load, Ecall, Op, OpW, OpImm, OpImmW}
 use Rattle.rv_model.specs.Memory.{any_from, is_within}
 use Rattle.rv_model.specs.Arithmetic.{load_width}
-use Rattle.program_model.specs.Descriptors.{Descriptor, Free, Null, Out, Err, File, Descriptors}
 use Rattle.program_model.specs.PlainRun.{State}
 use Rattle.code_model.specs.Places.{block_at}
 use Rattle.run_model.specs.Run.{World, Run, rewritten_words}
@@ -20,69 +19,13 @@ use Rattle.side_model.specs.Sees.{shade_of, Sees}
 use Rattle.side_model.proofs.Private.{priv_of, HasPriv-of}
 use Rattle.side_model.proofs.Registers as low
 use Rattle.side_model.proofs.Registers.{HasRegs-of}
-use Rattle.own_laws.proofs.Offsets.{Lawful, Fits, AllFit}
 use Rattle.mark_laws.specs.Agreement.{Agrees, SeesAlike}
-use Rattle.shadow_laws.proofs.ShadowNumbers.{Sized, stock_of}
+use Rattle.shadow_laws.proofs.ShadowNumbers.{Sized, stock_of, sized-of}
 use Rattle.hint_laws.proofs.Within.{Doing, does, ends, AreSeen, Within, Begun, begun, at_end, begins}
 use Rattle.hint_laws.proofs.Followed.{known, registers, regs_of, program_in, view_in, DoesOf, instruction, text_end, is_storing, is_restart}
 use Rattle.hint_laws.proofs.Views.{are-seen, agrees-as}
 use Rattle.hint_laws.proofs.Arriving.{instr-there}
-use Rattle.shadow_walk.specs.Walks.{AreSmall, AreAllSmall, AreLawful, IsSized, StandsAt}
-
--- ---- numbers
-
--- a descriptor is small just where it fits
-small-fits : (d : Descriptor) → AreSmall d → Fits d
-small-fits (File name size offset) h = record { by = h }
-small-fits Free h = record { by = tt }
-small-fits Null h = record { by = tt }
-small-fits Out h = record { by = tt }
-small-fits Err h = record { by = tt }
-
-fits-small : (d : Descriptor) → Fits d → AreSmall d
-fits-small (File name size offset) h = h.by
-fits-small Free h = tt
-fits-small Null h = tt
-fits-small Out h = tt
-fits-small Err h = tt
-
-all-fit : (ds : List Descriptor) → AreAllSmall ds → AllFit ds
-all-fit [] h = tt
-all-fit (d ∷ ds) h = (small-fits d h.0, all-fit ds h.1)
-
-all-small : (ds : List Descriptor) → AllFit ds → AreAllSmall ds
-all-small [] h = tt
-all-small (d ∷ ds) h = (fits-small d h.0, all-small ds h.1)
-
--- so are descriptors lawful
-are-lawful : (f : Descriptors) → AreLawful f → Lawful f
-are-lawful f h = record { count = h.count; each = all-fit f.slots h.each }
-
-lawful-are : (f : Descriptors) → Lawful f → AreLawful f
-lawful-are f h = record { count = h.count; each = all-small f.slots h.each }
-
--- and the numbers of a run
-pub sized-of : (r : Run) → IsSized r → Sized (stock_of r)
-sized-of r z =
-    record {
-      own_memory = z.own_memory;
-      own_files = are-lawful r.own.files z.own_files;
-      registers = z.registers;
-      files = are-lawful r.shadow.files z.files;
-      page = z.page;
-      shared = z.shared;
-    }
-
-pub of-sized : (r : Run) → Sized (stock_of r) → IsSized r
-of-sized r z =
-    record {
-      own_memory = z.own_memory;
-      own_files = lawful-are r.own.files z.own_files;
-      registers = z.registers;
-      files = lawful-are r.shadow.files z.files;
-      page = z.page;
-      shared = z.shared;
-    }
+use Rattle.shadow_walk.specs.Walks.{StandsAt}
 
 -- ---- no marks
 

@@ -29,7 +29,7 @@ use Rattle.side_model.proofs.Registers as low
 use Rattle.side_model.proofs.Registers.{HasRegs-of}
 use Rattle.rows_log.specs.RestartRows.{HasBox}
 use Rattle.rows_log.proofs.RestartWords.{restart_starts}
-use Rattle.shadow_laws.proofs.ShadowNumbers.{Sized, stock_of, in-keeps}
+use Rattle.shadow_laws.proofs.ShadowNumbers.{Sized, stock_of, in-keeps, sized-of, of-sized}
 use Rattle.shadow_laws.proofs.ShadowRuns.{block-arrives}
 use Rattle.shadow_laws.proofs.Sound.{Target, target-of, parked_running}
 use Rattle.shadow_laws.proofs.TextBlocks.{text}
@@ -53,7 +53,6 @@ use Rattle.shadow_walk.specs.Restarts as again
 use Rattle.shadow_walk.specs.Restarts.{StandsAnew, IsUnboxed, LeavesOwn, Restarts}
 use Rattle.shadow_walk.specs.declared.walking.Walked.TheVariants as walked
 use Rattle.shadow_walk.proofs.Told.{Tells, tells}
-use Rattle.shadow_walk.proofs.OnTheWay.{sized-of, of-sized}
 use Rattle.shadow_walk.proofs.WalkRows.{within-some, AsksIn, Unboxes, within-asks, within-completes}
 use Rattle.shadow_walk.proofs.Strides.{none-yet, none-more, Stepped, IsStray}
 

@@ -46,7 +46,8 @@ use Rattle.shadow_walk.specs.Walks as walk
 use Rattle.shadow_walk.specs.Walks.{words_on, HasState, StandsAt, StandsAtCall, ParksBy, HasLog, Logs, NoneArrives, Walks, arrives, parks, calls}
 use Rattle.shadow_walk.specs.declared.walking.Walked.TheVariants as walked
 use Rattle.shadow_walk.proofs.Told.{Tells, tells}
-use Rattle.shadow_walk.proofs.OnTheWay.{of-sized, use-none, Walking, walking-sees, Started, starts}
+use Rattle.shadow_laws.proofs.ShadowNumbers.{of-sized}
+use Rattle.shadow_walk.proofs.OnTheWay.{use-none, Walking, walking-sees, Started, starts}
 use Rattle.shadow_walk.proofs.WalkEnds.{OnInstruction, on-instruction}
 use Rattle.shadow_walk.proofs.LogWords.{OnCall, log-starts, log-next, log-parks, log-calls}
 use Rattle.shadow_walk.proofs.WalkRows as asks

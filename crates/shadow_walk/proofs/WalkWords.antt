@@ -35,7 +35,7 @@ use Rattle.rows_access.specs.LoadRows.{LoadArrives}
 use Rattle.rows_access.specs.StoreRows.{StoreArrives}
 use Rattle.rows_access.proofs.AccessPlaces.{load-width, store-width}
 use Rattle.rows_flow.specs.Following.{GoesOn, FlowArrives}
-use Rattle.shadow_laws.proofs.ShadowNumbers.{Sized, stock_of, in-keeps}
+use Rattle.shadow_laws.proofs.ShadowNumbers.{Sized, stock_of, in-keeps, of-sized}
 use Rattle.shadow_laws.proofs.ShadowRuns.{block-arrives}
 use Rattle.shadow_laws.proofs.TextBlocks.{text}
 use Rattle.mark_laws.specs.Agreement.{Agrees, IsAt, SeesAlike, may_access, FlowLeads, StoreLeads}
@@ -51,7 +51,7 @@ use Rattle.hint_laws.proofs.Going.{program-left, alike-left}
 use Rattle.rv_model.specs.Rights.{in_text}
 use Rattle.own_laws.proofs.Reached.{false_true}
 use Rattle.shadow_walk.specs.Walks.{jumps, Faults, StandsAt, ParksBy}
-use Rattle.shadow_walk.proofs.OnTheWay.{of-sized, marks-none, store-none, use-none, Walking, walking-sees}
+use Rattle.shadow_walk.proofs.OnTheWay.{marks-none, store-none, use-none, Walking, walking-sees}
 use Rattle.shadow_walk.proofs.WalkEnds.{OnInstruction, on-instruction, same-jumps, no-faults, parks-by}
 
 -- what a word has led to

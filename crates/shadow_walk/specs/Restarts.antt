@@ -22,7 +22,8 @@ use Rattle.side_model.specs.Tables.{HasTabs}
 use Rattle.rows_log.specs.CallRows.{IsSite}
 use Rattle.hart_step.specs.Core.{Core}
 use Rattle.word_laws.specs.Shown.{ShowsIn, ShowsShadow}
-use Rattle.shadow_walk.specs.Walks.{IsSized, NoneArrives, words_on}
+use Rattle.run_laws.specs.Numbers.{IsSized}
+use Rattle.shadow_walk.specs.Walks.{NoneArrives, words_on}
 use Rattle.shadow_walk.specs.declared.walking.Walked.{Walked}
 use Rattle.shadow_walk.specs.declared.walking.Walked.TheVariants as walked
 

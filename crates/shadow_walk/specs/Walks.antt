@@ -13,7 +13,6 @@ use Rattle.rv_model.specs.Memory.{Memory}
 use Rattle.rv_model.specs.Registers.{Registers, reg}
 use Rattle.rv_model.specs.Arithmetic.{is_taken}
 use Rattle.rv_model.specs.Space.{Space}
-use Rattle.program_model.specs.Descriptors.{Descriptor, Free, Null, Out, Err, File, Descriptors}
 use Rattle.program_model.specs.Calls.{key_of}
 use Rattle.program_model.specs.PlainRun.{State, all_taken, next_state, plan_of}
 use Rattle.code_model.specs.Log.{IsQueue, log_head, log_tail, logged}
@@ -22,6 +21,7 @@ use Rattle.code_model.specs.Regions.{entry_of, slots_in_use, shadowed}
 use Rattle.run_model.specs.Run.{World, Run, Answer}
 use Rattle.run_model.specs.ShadowMoves.{fetch_shadow, is_arrival, shadow_step}
 use Rattle.run_laws.specs.OwnLaws.{Accepted}
+use Rattle.run_laws.specs.Numbers.{IsSized}
 use Rattle.run_model.specs.Restarts.{instr_at}
 use Rattle.side_model.specs.Places.{HasBlock}
 use Rattle.code_model.specs.Tables.{Tabs, TableOk}
@@ -30,35 +30,6 @@ use Rattle.hart_step.specs.Core.{Core}
 use Rattle.word_laws.specs.Shown.{ShowsIn, ShowsShadow}
 use Rattle.shadow_walk.specs.declared.walking.Walked.{Walked}
 use Rattle.shadow_walk.specs.declared.walking.Walked.TheVariants as walked
-
--- ---- numbers
-
--- the size and the offset of a file are below 2^56
-abbrev pub AreSmall : Descriptor → Type 0
-AreSmall (File name size offset) = (size < 2 ^ 56) × (offset < 2 ^ 56)
-AreSmall Free = ⊤
-AreSmall Null = ⊤
-AreSmall Out = ⊤
-AreSmall Err = ⊤
-
--- those of each of these descriptors
-abbrev pub AreAllSmall : List Descriptor → Type 0
-AreAllSmall [] = ⊤
-AreAllSmall (d ∷ ds) = AreSmall d × AreAllSmall ds
-
--- there are 32 descriptors, with such sizes and offsets
-pub record AreLawful (f : Descriptors) : Type 0 where
-  pub count : length f.slots ≡ 32
-  pub each : AreAllSmall f.slots
-
--- the shadow's registers are numbers of 64 bits, all that it loads from has bytes, and the descriptors are lawful
-pub record IsSized (r : Run) : Type 0 where
-  pub registers : (i : ℕ) → r.shadow.registers i < 2 ^ 64
-  pub own_memory : (a : ℕ) → r.own.memory a < 256
-  pub shared : (a : ℕ) → r.shared a < 256
-  pub page : (a : ℕ) → r.shadow_page a < 256
-  pub files : AreLawful r.shadow.files
-  pub own_files : AreLawful r.own.files
 
 -- ---- states
 
