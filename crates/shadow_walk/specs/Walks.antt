@@ -92,7 +92,7 @@ pub record HasLog (r : Run) : Type 0 where
   pub queue : IsQueue r.shared
   pub short : log_tail r.shared + 1 < 2 ^ 64 - 1
 
--- what a call of this key and this asked count leaves of the log: without a key all; else one more pair, for which there was room
+-- what a call of this key and this asked count does to the log's tail: without a key nothing; else it joins one pair, for which there was room
 pub data Logs (key count : ℕ) (old new : Memory) : Type 0 where
   keyless : key ≡ 0 → log_tail new ≡ log_tail old → Logs key count old new
   joins : 0 < key → log_tail old < log_head old + 64 → log_tail new ≡ log_tail old + 1 → logged new (log_tail old) ≡ (key, count) → Logs key count old new
