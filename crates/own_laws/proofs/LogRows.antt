@@ -53,30 +53,31 @@ is_asked (emptied log) = false
 is_asked (boxing log j) = false
 
 -- a keyed call is judged by this log
-pub record Judged (key : ℕ) (before log : Memory) : Type 0 where
+pub record Judged (J : Memory → Type 0) (key : ℕ) (before log : Memory) : Type 0 where
+  pub now : J log
   pub keyed : 0 < key
   pub grown : Appends before log
 
 -- its oldest pair isn't the call's
-pub record Missed (key count : ℕ) (before log : Memory) : Type 0 where
-  pub judged : Judged key before log
+pub record Missed (J : Memory → Type 0) (key count : ℕ) (before log : Memory) : Type 0 where
+  pub judged : Judged J key before log
   pub other : IsOldest log key count → ⊥
 
 -- what is known of the log in a phase, of the link and of the shadow's state
-abbrev pub Fact : State → ℕ → ℕ → Memory → Phase → Memory → ShadowState → Type 0
-Fact q key count before fresh m s = Appends before m
-Fact q key count before keyed m s = (0 < key) × Appends before m
-Fact q key count before (headed head) m s = (0 < key) × Appends before m × (head ≡ log_head m)
-Fact q key count before (judging log) m s = Judged key before log × Appends log m
-Fact q key count before (found log) m s = Judged key before log × Appends log m × (log_head log < log_tail log)
-Fact q key count before (matching log) m s = Judged key before log × Appends log m × (log_head log < log_tail log) × ((logged log (log_head log)).0 ≡ key)
-Fact q key count before (oldest log) m s = Judged key before log × Appends log m × IsOldest log key count
-Fact q key count before (settled asked) m s = Outcome q key count before asked m
-Fact q key count before (missed log) m s = Missed key count before log
-Fact q key count before (halted log) m s = Missed key count before log × (s ≡ Stopped)
-Fact q key count before (headless log) m s = Missed key count before log × (s ≡ Stopped) × (log_head m ≡ 0)
-Fact q key count before (emptied log) m s = Missed key count before log × (s ≡ Stopped) × IsEmpty m
-Fact q key count before (boxing log j) m s = Missed key count before log × (s ≡ Stopped) × IsEmpty m × BoxedTo m q.pc q.registers j
+abbrev pub Fact : (Memory → Type 0) → Type 0 → State → ℕ → ℕ → Memory → Phase → Memory → ShadowState → Type 0
+Fact J R q key count before fresh m s = Appends before m
+Fact J R q key count before keyed m s = (0 < key) × Appends before m
+Fact J R q key count before (headed head) m s = (0 < key) × Appends before m × (head ≡ log_head m)
+Fact J R q key count before (judging log) m s = Judged J key before log × Appends log m
+Fact J R q key count before (found log) m s = Judged J key before log × Appends log m × (log_head log < log_tail log)
+Fact J R q key count before (matching log) m s = Judged J key before log × Appends log m × (log_head log < log_tail log) × ((logged log (log_head log)).0 ≡ key)
+Fact J R q key count before (oldest log) m s = Judged J key before log × Appends log m × IsOldest log key count
+Fact J R q key count before (settled asked) m s = Outcome J R q key count before asked m
+Fact J R q key count before (missed log) m s = Missed J key count before log
+Fact J R q key count before (halted log) m s = Missed J key count before log × (s ≡ Stopped)
+Fact J R q key count before (headless log) m s = Missed J key count before log × (s ≡ Stopped) × (log_head m ≡ 0)
+Fact J R q key count before (emptied log) m s = Missed J key count before log × (s ≡ Stopped) × IsEmpty m
+Fact J R q key count before (boxing log j) m s = Missed J key count before log × (s ≡ Stopped) × IsEmpty m × BoxedTo m q.pc q.registers j
 
 -- ---- rows
 
@@ -132,12 +133,12 @@ pub data LogRow (q : State) (key : ℕ) : Phase → ℕ → ℕ → ℕ → ℕ 
   r71 : {c : ℕ} {page : Memory} → Saved31 page q.registers → LogRow q key (settled true) 71 (q.registers 29) (q.registers 30) c page
 
 -- a word leads to a row with the restarts as they are, to the row behind a restart, or to the call
-pub data Onward (q : State) (key count : ℕ) (before : Memory) (t : Tally) (p : Phase) (next : Run) : Type 0 where
-  to_row : (p' : Phase) (l a b c : ℕ) (page : Memory) → LogRow q key p' l a b c page → Fact q key count before p' next.shared next.shadow.state → is_asked p' ≡ is_asked p → (l == 27) ≡ false
-      → side_of next ≡ stub_side q t l (three q.registers a b c) page → Onward q key count before t p next
-  to_restarted : (c : ℕ) (page : Memory) → Saved31 page q.registers → Outcome q key count before true next.shared → is_asked p ≡ false
-      → side_of next ≡ stub_side q (restarted_tally q t) 71 (three q.registers (q.registers 29) (q.registers 30) c) page → Onward q key count before t p next
-  to_call : (asked : Bool) (page : Memory) → Outcome q key count before asked next.shared → asked ≡ is_asked p → side_of next ≡ stub_side q t 26 q.registers page → Onward q key count before t p next
+pub data Onward (J : Memory → Type 0) (R : Type 0) (q : State) (key count : ℕ) (before : Memory) (t : Tally) (p : Phase) (next : Run) : Type 0 where
+  to_row : (p' : Phase) (l a b c : ℕ) (page : Memory) → LogRow q key p' l a b c page → Fact J R q key count before p' next.shared next.shadow.state → is_asked p' ≡ is_asked p → (l == 27) ≡ false
+      → side_of next ≡ stub_side q t l (three q.registers a b c) page → Onward J R q key count before t p next
+  to_restarted : (c : ℕ) (page : Memory) → Saved31 page q.registers → Outcome J R q key count before true next.shared → is_asked p ≡ false
+      → side_of next ≡ stub_side q (restarted_tally q t) 71 (three q.registers (q.registers 29) (q.registers 30) c) page → Onward J R q key count before t p next
+  to_call : (asked : Bool) (page : Memory) → Outcome J R q key count before asked next.shared → asked ≡ is_asked p → side_of next ≡ stub_side q t 26 q.registers page → Onward J R q key count before t p next
 
 -- ---- each word
 
@@ -147,7 +148,7 @@ place_found log =
     let e : bit_and (log_head log) 63 ≡ log_head log % 2 ^ 6 = and_mask (log_head log) 6 in
     record { in_log = in_log (log_head log); is = omega (arith, e) }
 
-module _ (w : World) (x : Answer) (q : State) (t : Tally) (fits : (n : ℕ) → q.registers n < 2 ^ 64) (place : q.pc < 2 ^ 64)
+module _ (J : Memory → Type 0) (R : Type 0) (w : World) (x : Answer) (q : State) (t : Tally) (fits : (n : ℕ) → q.registers n < 2 ^ 64) (place : q.pc < 2 ^ 64)
     (small_key : key_of (plan_of w.image.layout q) < 2 ^ 64) (before : Memory) (order : log_head before ≤ log_tail before) where
   abbrev key : ℕ
   key = key_of (plan_of w.image.layout q)
@@ -156,10 +157,10 @@ module _ (w : World) (x : Answer) (q : State) (t : Tally) (fits : (n : ℕ) → 
   count = q.registers 12
 
   abbrev Leads : Phase → Run → Type 0
-  Leads p next = Onward q key count before t p next
+  Leads p next = Onward J R q key count before t p next
 
   abbrev Known : Phase → Run → Type 0
-  Known p r = Fact q key count before p r.shared r.shadow.state
+  Known p r = Fact J R q key count before p r.shared r.shadow.state
 
   -- a word that leads to a row
   to : {next : Run} (p p' : Phase) (r' : Run) (l a b c : ℕ) (page : Memory)
@@ -189,14 +190,14 @@ module _ (w : World) (x : Answer) (q : State) (t : Tally) (fits : (n : ℕ) → 
       omega (arith, same, o.some)
 
   -- a log whose head isn't its tail has a pair
-  some_pair : (log : Memory) → Judged key before log → (log_head log == log_tail log) ≡ false → log_head log < log_tail log
+  some_pair : (log : Memory) → Judged J key before log → (log_head log == log_tail log) ≡ false → log_head log < log_tail log
   some_pair log j e =
       let below : log_head log ≤ log_tail log = omega (arith, order, j.grown.head, j.grown.tail) in
       grind (arith, nat_tests, below, e)
 
   -- word 10 leads on: a log without pair to word 28
   branch_10 : (log : Memory) (b : Bool) → (log_head log == log_tail log) ≡ b → (r : Run) (page : Memory) → SavedAll page q.registers → loaded page (2 ^ 64 - 64) 8 ≡ key
-      → Judged key before log → Appends log r.shared → Leads (judging log) (at q t r (branched b 28 11) (log_head log) 0x4200_0000 (log_tail log) page)
+      → Judged J key before log → Appends log r.shared → Leads (judging log) (at q t r (branched b 28 11) (log_head log) 0x4200_0000 (log_tail log) page)
   branch_10 log true e r page s v j f = to (judging log) (missed log) r 28 _ _ _ page refl (r28 s) (record { judged = j; other = no_pair log e }) refl refl
   branch_10 log false e r page s v j f = to (judging log) (found log) r 11 _ _ _ page refl (r11 s v) (j, f, some_pair log j e) refl refl
 
@@ -210,14 +211,14 @@ module _ (w : World) (x : Answer) (q : State) (t : Tally) (fits : (n : ℕ) → 
 
   -- word 16 leads on: another key to word 28
   branch_16 : (log : Memory) (b : Bool) → not ((logged log (log_head log)).0 == key) ≡ b → (r : Run) (c : ℕ) (page : Memory) → SavedAll page q.registers → Place log c
-      → Judged key before log → Appends log r.shared → log_head log < log_tail log → Leads (found log) (at q t r (branched b 28 17) ((logged log (log_head log)).0) key c page)
+      → Judged J key before log → Appends log r.shared → log_head log < log_tail log → Leads (found log) (at q t r (branched b 28 17) ((logged log (log_head log)).0) key c page)
   branch_16 log true e r c page s l j f h =
       to (found log) (missed log) r 28 _ _ c page refl (r28 s) (record { judged = j; other = λ o. unequal (logged log (log_head log)).0 key e (ap (λ p. p.0) o.pair) }) refl refl
   branch_16 log false e r c page s l j f h = to (found log) (matching log) r 17 _ _ c page refl (r17 s l) (j, f, h, equal _ key e) refl refl
 
   -- word 18 leads on: another count to word 28
   branch_18 : (log : Memory) (b : Bool) → not ((logged log (log_head log)).1 == count) ≡ b → (r : Run) (b' c : ℕ) (page : Memory) → SavedAll page q.registers
-      → Judged key before log → Appends log r.shared → log_head log < log_tail log → (logged log (log_head log)).0 ≡ key
+      → Judged J key before log → Appends log r.shared → log_head log < log_tail log → (logged log (log_head log)).0 ≡ key
       → Leads (matching log) (at q t r (branched b 28 19) ((logged log (log_head log)).1) b' c page)
   branch_18 log true e r b' c page s j f h k =
       to (matching log) (missed log) r 28 _ b' c page refl (r28 s) (record { judged = j; other = λ o. unequal (logged log (log_head log)).1 count e (ap (λ p. p.1) o.pair) }) refl refl
@@ -255,8 +256,8 @@ module _ (w : World) (x : Answer) (q : State) (t : Tally) (fits : (n : ℕ) → 
   -- ---- each word
 
   -- the log that is judged is the one from which word 9 loads the tail
-  judged_now : (r : Run) → 0 < key → Appends before r.shared → Judged key before r.shared × Appends r.shared r.shared
-  judged_now r h f = (record { keyed = h; grown = f }, Appends-same r.shared f.below)
+  judged_now : (r : Run) → J r.shared → 0 < key → Appends before r.shared → Judged J key before r.shared × Appends r.shared r.shared
+  judged_now r j h f = (record { now = j; keyed = h; grown = f }, Appends-same r.shared f.below)
 
   -- what is loaded of the oldest pair is what the judged log has
   oldest_key : (log : Memory) (r : Run) (c : ℕ) → Place log c → Appends log r.shared → log_head log < log_tail log → loaded r.shared (c + 256) 8 ≡ (logged log (log_head log)).0
@@ -268,78 +269,79 @@ module _ (w : World) (x : Answer) (q : State) (t : Tally) (fits : (n : ℕ) → 
       ap (λ p. loaded r.shared p 8) place ∙ ap (λ (p : ℕ × ℕ). p.1) (f.pairs (log_head log) (omega arith) h)
 
   -- a pair's number is below 2^64
-  next_head : (log : Memory) → Judged key before log → IsOldest log key count → wrap (log_head log + 1) ≡ log_head log + 1
+  next_head : (log : Memory) → Judged J key before log → IsOldest log key count → wrap (log_head log + 1) ≡ log_head log + 1
   next_head log j o = omega (arith, j.grown.below, o.some)
 
   -- each word leads on
-  pub log_word_goes : (r : Run) (p : Phase) (k a b c : ℕ) (page : Memory) → LogRow q key p k a b c page → Known p r → Leads p (after_word w x q t r k a b c page)
-  log_word_goes r _ _ a b c page r1 f = to fresh fresh r 2 _ _ _ _ (word_1 w x q t r _ _ _ page) (r2 (save31 page q.registers fits)) f refl refl
-  log_word_goes r _ _ a b c page (r2 s) f = to fresh fresh r 3 _ _ _ page (word_2 w x q t r _ _ _ page) (r3 s) f refl refl
-  log_word_goes r _ _ a b c page (r3 s) f = subst (λ n. Leads fresh n) (sym (word_3 w x q t r _ _ key page)) (branch_3 (key == 0) refl r page s f)
-  log_word_goes r _ _ a b c page (r4 s) f = to keyed keyed r 5 _ _ key _ (word_4 w x q t r _ _ key page) (r5 (save30 page q.registers fits s)) f refl refl
-  log_word_goes r _ _ a b c page (r5 s) f = to keyed keyed r 6 _ _ key _ (word_5 w x q t r _ _ key page) (r6 (save29 page q.registers fits s)) f refl refl
-  log_word_goes r _ _ a b c page (r6 s) f = to keyed keyed r 7 a b key _ (word_6 w x q t r a b key page) (r7 (save_key page q.registers fits key s) (loaded-stored page (2 ^ 64 - 64) key small_key)) f refl refl
-  log_word_goes r _ _ a b c page (r7 s v) f = to keyed keyed r 8 a _ c page (word_7 w x q t r a b c page) (r8 s v) f refl refl
-  log_word_goes r _ _ a b c page (r8 s v) (h, f) = to keyed (headed (log_head r.shared)) r 9 _ _ c page (word_8 w x q t r a 0 c page) (r9 s v) (h, f, refl) refl refl
-  log_word_goes r _ _ a b c page (r9 s v) (h, f, e) =
-      to (headed a) (judging r.shared) r 10 _ _ _ page (word_9 w x q t r a 0 c page ∙ ap (λ n. at q t r 10 n 0x4200_0000 (log_tail r.shared) page) e) (r10 s v) (judged_now r h f) refl refl
-  log_word_goes r (judging log) _ a b c page (r10 s v) (j, f) = subst (λ n. Leads (judging log) n) (sym (word_10 w x q t r _ _ _ page)) (branch_10 log (log_head log == log_tail log) refl r page s v j f)
-  log_word_goes r (found log) _ a b c page (r11 s v) f = to (found log) (found log) r 12 _ _ _ page (word_11 w x q t r _ _ c page) (r12 s v) f refl refl
-  log_word_goes r (found log) _ a b c page (r12 s v) f = to (found log) (found log) r 13 _ _ _ page (word_12 w x q t r _ _ _ page) (r13 s v) f refl refl
-  log_word_goes r (found log) _ a b c page (r13 s v) f = to (found log) (found log) r 14 _ _ _ page (word_13 w x q t r _ _ _ page) (r14 s v (place_found log)) f refl refl
-  log_word_goes r (found log) _ a b c page (r14 s v l) (j, f, h) =
+  pub log_word_goes : (r : Run) (p : Phase) (k a b c : ℕ) (page : Memory) → LogRow q key p k a b c page → Known p r → (k ≡ 9 → J r.shared) → (k ≡ 70 → R)
+      → Leads p (after_word w x q t r k a b c page)
+  log_word_goes r _ _ a b c page r1 f now restart = to fresh fresh r 2 _ _ _ _ (word_1 w x q t r _ _ _ page) (r2 (save31 page q.registers fits)) f refl refl
+  log_word_goes r _ _ a b c page (r2 s) f now restart = to fresh fresh r 3 _ _ _ page (word_2 w x q t r _ _ _ page) (r3 s) f refl refl
+  log_word_goes r _ _ a b c page (r3 s) f now restart = subst (λ n. Leads fresh n) (sym (word_3 w x q t r _ _ key page)) (branch_3 (key == 0) refl r page s f)
+  log_word_goes r _ _ a b c page (r4 s) f now restart = to keyed keyed r 5 _ _ key _ (word_4 w x q t r _ _ key page) (r5 (save30 page q.registers fits s)) f refl refl
+  log_word_goes r _ _ a b c page (r5 s) f now restart = to keyed keyed r 6 _ _ key _ (word_5 w x q t r _ _ key page) (r6 (save29 page q.registers fits s)) f refl refl
+  log_word_goes r _ _ a b c page (r6 s) f now restart = to keyed keyed r 7 a b key _ (word_6 w x q t r a b key page) (r7 (save_key page q.registers fits key s) (loaded-stored page (2 ^ 64 - 64) key small_key)) f refl refl
+  log_word_goes r _ _ a b c page (r7 s v) f now restart = to keyed keyed r 8 a _ c page (word_7 w x q t r a b c page) (r8 s v) f refl refl
+  log_word_goes r _ _ a b c page (r8 s v) (h, f) now restart = to keyed (headed (log_head r.shared)) r 9 _ _ c page (word_8 w x q t r a 0 c page) (r9 s v) (h, f, refl) refl refl
+  log_word_goes r _ _ a b c page (r9 s v) (h, f, e) now restart =
+      to (headed a) (judging r.shared) r 10 _ _ _ page (word_9 w x q t r a 0 c page ∙ ap (λ n. at q t r 10 n 0x4200_0000 (log_tail r.shared) page) e) (r10 s v) (judged_now r (now refl) h f) refl refl
+  log_word_goes r (judging log) _ a b c page (r10 s v) (j, f) now restart = subst (λ n. Leads (judging log) n) (sym (word_10 w x q t r _ _ _ page)) (branch_10 log (log_head log == log_tail log) refl r page s v j f)
+  log_word_goes r (found log) _ a b c page (r11 s v) f now restart = to (found log) (found log) r 12 _ _ _ page (word_11 w x q t r _ _ c page) (r12 s v) f refl refl
+  log_word_goes r (found log) _ a b c page (r12 s v) f now restart = to (found log) (found log) r 13 _ _ _ page (word_12 w x q t r _ _ _ page) (r13 s v) f refl refl
+  log_word_goes r (found log) _ a b c page (r13 s v) f now restart = to (found log) (found log) r 14 _ _ _ page (word_13 w x q t r _ _ _ page) (r14 s v (place_found log)) f refl refl
+  log_word_goes r (found log) _ a b c page (r14 s v l) (j, f, h) now restart =
       to (found log) (found log) r 15 _ b c page (word_14 w x q t r a b c page l.in_log ∙ ap (λ n. at q t r 15 n b c page) (oldest_key log r c l f h)) (r15 s v l) (j, f, h) refl refl
-  log_word_goes r (found log) _ a b c page (r15 s v l) f =
+  log_word_goes r (found log) _ a b c page (r15 s v l) f now restart =
       to (found log) (found log) r 16 _ _ c page (word_15 w x q t r _ b c page ∙ ap (λ n. at q t r 16 ((logged log (log_head log)).0) n c page) v) (r16 s l) f refl refl
-  log_word_goes r (found log) _ a b c page (r16 s l) (j, f, h) =
+  log_word_goes r (found log) _ a b c page (r16 s l) (j, f, h) now restart =
       subst (λ n. Leads (found log) n) (sym (word_16 w x q t r _ key c page)) (branch_16 log (not ((logged log (log_head log)).0 == key)) refl r c page s l j f h)
-  log_word_goes r (matching log) _ a b c page (r17 s l) (j, f, h, k) =
+  log_word_goes r (matching log) _ a b c page (r17 s l) (j, f, h, k) now restart =
       to (matching log) (matching log) r 18 _ b c page (word_17 w x q t r a b c page l.in_log ∙ ap (λ n. at q t r 18 n b c page) (oldest_count log r c l f h)) (r18 s) (j, f, h, k) refl refl
-  log_word_goes r (matching log) _ a b c page (r18 s) (j, f, h, k) =
+  log_word_goes r (matching log) _ a b c page (r18 s) (j, f, h, k) now restart =
       subst (λ n. Leads (matching log) n) (sym (word_18 w x q t r _ b c page)) (branch_18 log (not ((logged log (log_head log)).1 == count)) refl r b c page s j f h k)
-  log_word_goes r (oldest log) _ a b c page (r19 s) f = to (oldest log) (oldest log) r 20 a _ c page (word_19 w x q t r a b c page) (r20 s) f refl refl
-  log_word_goes r (oldest log) _ a b c page (r20 s) (j, f, o) =
+  log_word_goes r (oldest log) _ a b c page (r19 s) f now restart = to (oldest log) (oldest log) r 20 a _ c page (word_19 w x q t r a b c page) (r20 s) f refl refl
+  log_word_goes r (oldest log) _ a b c page (r20 s) (j, f, o) now restart =
       to (oldest log) (oldest log) r 21 _ _ c page (word_20 w x q t r a 0 c page ∙ ap (λ n. at q t r 21 n 0x4200_0000 c page) f.head) (r21 s) (j, f, o) refl refl
-  log_word_goes r (oldest log) _ a b c page (r21 s) (j, f, o) =
+  log_word_goes r (oldest log) _ a b c page (r21 s) (j, f, o) now restart =
       to (oldest log) (oldest log) r 22 _ _ c page (word_21 w x q t r _ _ c page ∙ ap (λ n. at q t r 22 n 0x4200_0000 c page) (next_head log j o)) (r22 s) (j, f, o) refl refl
-  log_word_goes r (oldest log) _ a b c page (r22 s) (j, f, o) =
+  log_word_goes r (oldest log) _ a b c page (r22 s) (j, f, o) now restart =
       to (oldest log) (settled false) (linked w x q t r 0x4200_0000 (log_head log + 1)) 23 _ _ c page (word_22 w x q t r _ 0 c page) (r23 s)
-      (takes log j.keyed j.grown o (takes-oldest log r.shared key count j.grown.below o f)) refl refl
-  log_word_goes r _ _ a b c page (r23 s) f =
+      (takes log j.now j.keyed j.grown o (takes-oldest log r.shared key count j.grown.below o f)) refl refl
+  log_word_goes r _ _ a b c page (r23 s) f now restart =
       to (settled false) (settled false) r 24 _ b c page (word_23 w x q t r a b c page ∙ ap (λ n. at q t r 24 n b c page) s.x29) (r24 (record { x31 = s.x31; x30 = s.x30 })) f refl refl
-  log_word_goes r _ _ a b c page (r24 s) f =
+  log_word_goes r _ _ a b c page (r24 s) f now restart =
       to (settled false) (settled false) r 25 _ _ c page (word_24 w x q t r _ b c page ∙ ap (λ n. at q t r 25 (q.registers 29) n c page) s.x30) (r25 s.x31) f refl refl
-  log_word_goes r (settled asked) _ a b c page (r25 s) f =
+  log_word_goes r (settled asked) _ a b c page (r25 s) f now restart =
       subst (λ n. Leads (settled asked) n)
       (sym (word_25 w x q t r _ _ c page ∙ ap (λ n. at q t r 26 (q.registers 29) (q.registers 30) n page) s ∙ ap (λ rs. with_side r (stub_side q t 26 rs page)) (three-own q.registers)))
       (to_call asked page f refl refl)
-  log_word_goes r (missed log) _ a b c page (r28 s) f = to (missed log) (halted log) (stopped w x q t r) 29 a b c page (word_28 w x q t r a b c page) (r29 s) (f, refl) refl refl
-  log_word_goes r (halted log) _ a b c page (r29 s) f = to (halted log) (halted log) r 30 a _ c page (word_29 w x q t r a b c page) (r30 s) f refl refl
-  log_word_goes r (halted log) _ a b c page (r30 s) (f, h) =
+  log_word_goes r (missed log) _ a b c page (r28 s) f now restart = to (missed log) (halted log) (stopped w x q t r) 29 a b c page (word_28 w x q t r a b c page) (r29 s) (f, refl) refl refl
+  log_word_goes r (halted log) _ a b c page (r29 s) f now restart = to (halted log) (halted log) r 30 a _ c page (word_29 w x q t r a b c page) (r30 s) f refl refl
+  log_word_goes r (halted log) _ a b c page (r30 s) (f, h) now restart =
       to (halted log) (headless log) (linked w x q t r 0x4200_0000 0) 31 a _ c page (word_30 w x q t r a 0 c page) (r31 s) (f, h, head-emptied r.shared) refl refl
-  log_word_goes r (headless log) _ a b c page (r31 s) (f, h, e) =
+  log_word_goes r (headless log) _ a b c page (r31 s) (f, h, e) now restart =
       to (headless log) (emptied log) (linked w x q t r 0x4200_0008 0) 32 a _ c page (word_31 w x q t r a 0 c page) (r32 s) (f, h, tail-emptied r.shared e) refl refl
-  log_word_goes r (emptied log) _ a b c page (r32 s) f = to (emptied log) (emptied log) r 33 a b _ page (word_32 w x q t r a b c page) (r33 s) f refl refl
-  log_word_goes r (emptied log) _ a b c page (r33 s) f = to (emptied log) (emptied log) r 34 a _ _ page (word_33 w x q t r a b _ page) (r34 s) f refl refl
-  log_word_goes r (emptied log) _ a b c page (r34 s) (f, h, e) =
+  log_word_goes r (emptied log) _ a b c page (r32 s) f now restart = to (emptied log) (emptied log) r 33 a b _ page (word_32 w x q t r a b c page) (r33 s) f refl refl
+  log_word_goes r (emptied log) _ a b c page (r33 s) f now restart = to (emptied log) (emptied log) r 34 a _ _ page (word_33 w x q t r a b _ page) (r34 s) f refl refl
+  log_word_goes r (emptied log) _ a b c page (r34 s) (f, h, e) now restart =
       to (emptied log) (boxing log 0) (linked w x q t r 0x4200_1000 q.pc) 35 a _ _ page (word_34 w x q t r a q.pc 0 page) (r35 s)
       (f, h, empty-box_stored r.shared 0x4200_1000 q.pc (omega arith) e, site_boxed r.shared q.pc q.registers place) refl refl
-  log_word_goes r (boxing log _) _ a b c page (r35 s) f =
+  log_word_goes r (boxing log _) _ a b c page (r35 s) f now restart =
       to (boxing log 0) (boxing log 0) r 36 a _ _ page (word_35 w x q t r a b _ page ∙ ap (λ n. at q t r 36 a n 0x4200_1000 page) s.x30) (r36 s) f refl refl
-  log_word_goes r (boxing log _) _ a b c page (r36 s) f =
+  log_word_goes r (boxing log _) _ a b c page (r36 s) f now restart =
       to (boxing log 0) (boxing log 0) r (37 + 0) _ _ _ page (word_36 w x q t r a _ _ page ∙ ap (λ n. at q t r 37 n (q.registers 30) 0x4200_1000 page) s.x29)
       (r37-66 0 (lit< tt) (record { x31 = s.x31; x30 = s.x30 })) f refl refl
-  log_word_goes r (boxing log _) _ a b c page (r37-66 j h s) f = next_register log r j page h s f (cases_lt (j + 1) 30)
-  log_word_goes r (boxing log _) _ a b c page (r67 s) f =
+  log_word_goes r (boxing log _) _ a b c page (r37-66 j h s) f now restart = next_register log r j page h s f (cases_lt (j + 1) 30)
+  log_word_goes r (boxing log _) _ a b c page (r67 s) f now restart =
       to (boxing log 30) (boxing log 30) r 68 _ _ _ page (word_67 w x q t r _ _ _ page ∙ ap (λ n. at q t r 68 (q.registers 29) n 0x4200_1000 page) s.x31) (r68 s) f refl refl
-  log_word_goes r (boxing log _) _ a b c page (r68 s) (f, h, e, b') =
+  log_word_goes r (boxing log _) _ a b c page (r68 s) (f, h, e, b') now restart =
       to (boxing log 30) (boxing log 31) (linked w x q t r 0x4200_10F8 (q.registers 31)) 69 _ _ _ page (word_68 w x q t r _ _ 0 page) (r69 s)
       (f, h, empty-box_stored r.shared 0x4200_10F8 (q.registers 31) (omega arith) e, register_boxed r.shared q.pc q.registers 30 (fits 31) b') refl refl
-  log_word_goes r (boxing log _) _ a b c page (r69 s) f =
+  log_word_goes r (boxing log _) _ a b c page (r69 s) f now restart =
       to (boxing log 31) (boxing log 31) r 70 _ _ _ page (word_69 w x q t r _ b _ page ∙ ap (λ n. at q t r 70 (q.registers 29) n 0x4200_1000 page) s.x30) (r70 s.x31) f refl refl
-  log_word_goes r (boxing log _) _ a b c page (r70 s) (f, h, e, b') =
+  log_word_goes r (boxing log _) _ a b c page (r70 s) (f, h, e, b') now restart =
       let small : log_tail r.shared < 2 ^ 64 = omega (arith, e.tail) in
       subst (λ n. Leads (boxing log 31) n) (sym (word_70 w x q t r _ _ c page))
       (to_restarted c page s
-      (empties log r.shared f.judged.keyed f.judged.grown f.other e (record { site = b'.site; registers = b'.registers }) (Appends-same r.shared small)) refl refl)
-  log_word_goes r _ _ a b c page (r71 s) f = to (settled true) (settled true) r 25 _ _ c page (word_71 w x q t r _ _ c page) (r25 s) f refl refl
+      (empties log r.shared f.judged.now (restart refl) f.judged.keyed f.judged.grown f.other e (record { site = b'.site; registers = b'.registers }) (Appends-same r.shared small)) refl refl)
+  log_word_goes r _ _ a b c page (r71 s) f now restart = to (settled true) (settled true) r 25 _ _ c page (word_71 w x q t r _ _ c page) (r25 s) f refl refl

@@ -1,5 +1,6 @@
 -- From the gate to the word that leaves the stub: each move keeps what the rows say of the hint log.
-use Rattle.std.proofs.Common.{◌≡◌, ℕ, ◌+◌, ◌^◌, ◌≤◌, ◌<◌, Bool, true, false, List, [], ◌∷◌, Option, Some, None, refl, ◌∙◌, ap, sym, subst, ◌==◌, arith, is_some, drop, ap₂}
+use Rattle.std.proofs.Common.{◌≡◌, ℕ, ◌+◌, ◌^◌, ◌≤◌, ◌<◌, Bool, true, false, List, [], ◌∷◌, ◌++◌, Option, Some, None, refl, ◌∙◌, ap, sym, subst, ◌==◌, arith, is_some, drop, ap₂}
+use Rattle.std.proofs.lemmas.List.{append-nil, append_assoc}
 use Rattle.std.specs.Option.{option_map}
 use Rattle.spec_base.specs.declared.machine.View.TheVariants.{Plain, Program, Stub}
 use Rattle.spec_base.specs.declared.note.ShadowState.{ShadowState}
@@ -25,11 +26,11 @@ use Rattle.run_model.specs.OwnMoves.{program_after, program_at, program_step, ow
 use Rattle.run_model.specs.ShadowMoves.{shadow_in, shadow_step}
 use Rattle.run_model.specs.Moves.{Moves, step, step_unless, begun, run, run_from, fetch_of, fetch_ends, fetch_failed, landed_with, shadow_while}
 use Rattle.run_laws.specs.OwnLaws.{Accepted, IsShadowMove}
-use Rattle.run_laws.specs.StubLaws.{IsLeaving, IsLog, Appends, Outcome, keyless, takes, empties, without_oldest, Passing, restarts_after, IsPassage, TakesOldest, leaves, takes_pair, is_halted, StubKeepsLog, StubTakesOldest}
+use Rattle.run_laws.specs.StubLaws.{IsLeaving, IsLog, Appends, Outcome, keyless, takes, empties, without_oldest, Passing, restarts_after, IsJudged, IsRestarted, judging_word, restart_word, IsPassage, TakesOldest, leaves, takes_pair, is_halted, StubKeepsLog, StubTakesOldest}
 use Rattle.code_model.proofs.Alike.{gated, effect-patched, fetched-map}
 use Rattle.own_laws.proofs.InvisibleShadow.{shadow_move-keeps}
 use Rattle.own_laws.proofs.LogChanges.{Appends-again, Appends-same}
-use Rattle.own_laws.proofs.LogRows.{Phase, fresh, keyed, headed, judging, found, matching, oldest, settled, missed, halted, headless, emptied, boxing, is_asked, Fact, LogRow, r1, r2, r3, r4, r5, r6, r7, r8, r9, r10, r11, r12, r13, r14, r15, r16, r17, r18, r19, r20, r21, r22, r23, r24, r25, r28, r29, r30, r31, r32, r33, r34, r35, r36, r37-66, r67, r68, r69, r70, r71, Onward, to_row, to_restarted, to_call, log_word_goes}
+use Rattle.own_laws.proofs.LogRows.{Phase, fresh, keyed, headed, judging, found, matching, oldest, settled, missed, halted, headless, emptied, boxing, is_asked, Judged, Missed, Fact, LogRow, r1, r2, r3, r4, r5, r6, r7, r8, r9, r10, r11, r12, r13, r14, r15, r16, r17, r18, r19, r20, r21, r22, r23, r24, r25, r28, r29, r30, r31, r32, r33, r34, r35, r36, r37-66, r67, r68, r69, r70, r71, Onward, to_row, to_restarted, to_call, log_word_goes}
 use Rattle.own_laws.proofs.OneCall.{program_stub}
 use Rattle.own_laws.proofs.OwnLaws.{own_side}
 use Rattle.own_laws.proofs.OwnSide.{OwnSide, in_program, in_stub, at_call, waits, called, over, plan, program_side, called_side, placed}
@@ -99,27 +100,55 @@ module _ (w : World) (accepted : Accepted w) where
 -- ---- what a move of the shadow leaves of what is known
 
 -- what becomes of the log is the same where pairs are appended
-Outcome-grows : (q : State) (key count : ℕ) (before : Memory) (asked : Bool) (m m' : Memory) → Outcome q key count before asked m → Appends m m' → Outcome q key count before asked m'
-Outcome-grows q key count before _ m m' (keyless k f) g = keyless k (Appends-again before m m' f g)
-Outcome-grows q key count before _ m m' (takes log k j o f) g = takes log k j o (Appends-again (without_oldest log) m m' f g)
-Outcome-grows q key count before _ m m' (empties log boxed k j n e b f) g = empties log boxed k j n e b (Appends-again boxed m m' f g)
+Outcome-grows : (J : Memory → Type 0) (R : Type 0) (q : State) (key count : ℕ) (before : Memory) (asked : Bool) (m m' : Memory) → Outcome J R q key count before asked m → Appends m m' → Outcome J R q key count before asked m'
+Outcome-grows J R q key count before _ m m' (keyless k f) g = keyless k (Appends-again before m m' f g)
+Outcome-grows J R q key count before _ m m' (takes log t k j o f) g = takes log t k j o (Appends-again (without_oldest log) m m' f g)
+Outcome-grows J R q key count before _ m m' (empties log boxed t z k j n e b f) g = empties log boxed t z k j n e b (Appends-again boxed m m' f g)
+
+-- the same outcome, judged and restarted by other words
+Outcome-map : {J J' : Memory → Type 0} {R R' : Type 0} {q : State} {key count : ℕ} {before : Memory} {asked : Bool} {m : Memory} → ((m : Memory) → J m → J' m) → (R → R') → Outcome J R q key count before asked m → Outcome J' R' q key count before asked m
+Outcome-map jm rm (keyless k f) = keyless k f
+Outcome-map jm rm (takes log t k j o f) = takes log (jm log t) k j o f
+Outcome-map jm rm (empties log boxed t z k j n e b f) = empties log boxed (jm log t) (rm z) k j n e b f
+
+Judged-map : {J J' : Memory → Type 0} {key : ℕ} {before log : Memory} → ((m : Memory) → J m → J' m) → Judged J key before log → Judged J' key before log
+Judged-map {log = log} jm j = record { now = jm log j.now; keyed = j.keyed; grown = j.grown }
+
+Missed-map : {J J' : Memory → Type 0} {key count : ℕ} {before log : Memory} → ((m : Memory) → J m → J' m) → Missed J key count before log → Missed J' key count before log
+Missed-map jm j = record { judged = Judged-map jm j.judged; other = j.other }
+
+-- and the same fact
+Fact-map : {J J' : Memory → Type 0} {R R' : Type 0} (q : State) (key count : ℕ) (before : Memory) (p : Phase) (m : Memory) (s : ShadowState) → ((m : Memory) → J m → J' m) → (R → R') → Fact J R q key count before p m s → Fact J' R' q key count before p m s
+Fact-map q key count before fresh m s jm rm f = f
+Fact-map q key count before keyed m s jm rm f = f
+Fact-map q key count before (headed head) m s jm rm f = f
+Fact-map q key count before (judging log) m s jm rm (j, f) = (Judged-map jm j, f)
+Fact-map q key count before (found log) m s jm rm (j, f, l) = (Judged-map jm j, f, l)
+Fact-map q key count before (matching log) m s jm rm (j, f, l, k) = (Judged-map jm j, f, l, k)
+Fact-map q key count before (oldest log) m s jm rm (j, f, o) = (Judged-map jm j, f, o)
+Fact-map q key count before (settled asked) m s jm rm f = Outcome-map jm rm f
+Fact-map q key count before (missed log) m s jm rm f = Missed-map jm f
+Fact-map q key count before (halted log) m s jm rm (f, e) = (Missed-map jm f, e)
+Fact-map q key count before (headless log) m s jm rm (f, e, z) = (Missed-map jm f, e, z)
+Fact-map q key count before (emptied log) m s jm rm (f, e, z) = (Missed-map jm f, e, z)
+Fact-map q key count before (boxing log j) m s jm rm (f, e, z, b) = (Missed-map jm f, e, z, b)
 
 -- a stopped shadow leaves all, and another one appends
-Fact-grows : (q : State) (key count : ℕ) (before : Memory) (p : Phase) (m m' : Memory) (s s' : ShadowState) → Fact q key count before p m s → Appends m m'
-    → (s ≡ Stopped → (m' ≡ m) × (s' ≡ Stopped)) → Fact q key count before p m' s'
-Fact-grows q key count before fresh m m' s s' f g h = Appends-again before m m' f g
-Fact-grows q key count before keyed m m' s s' (k, f) g h = (k, Appends-again before m m' f g)
-Fact-grows q key count before (headed head) m m' s s' (k, f, e) g h = (k, Appends-again before m m' f g, e ∙ sym g.head)
-Fact-grows q key count before (judging log) m m' s s' (j, f) g h = (j, Appends-again log m m' f g)
-Fact-grows q key count before (found log) m m' s s' (j, f, l) g h = (j, Appends-again log m m' f g, l)
-Fact-grows q key count before (matching log) m m' s s' (j, f, l, k) g h = (j, Appends-again log m m' f g, l, k)
-Fact-grows q key count before (oldest log) m m' s s' (j, f, o) g h = (j, Appends-again log m m' f g, o)
-Fact-grows q key count before (settled asked) m m' s s' f g h = Outcome-grows q key count before asked m m' f g
-Fact-grows q key count before (missed log) m m' s s' f g h = f
-Fact-grows q key count before (halted log) m m' s s' (f, e) g h = (f, (h e).1)
-Fact-grows q key count before (headless log) m m' s s' (f, e, z) g h = subst (λ n. Fact q key count before (headless log) n s') (sym (h e).0) (f, (h e).1, z)
-Fact-grows q key count before (emptied log) m m' s s' (f, e, z) g h = subst (λ n. Fact q key count before (emptied log) n s') (sym (h e).0) (f, (h e).1, z)
-Fact-grows q key count before (boxing log j) m m' s s' (f, e, z, b) g h = subst (λ n. Fact q key count before (boxing log j) n s') (sym (h e).0) (f, (h e).1, z, b)
+Fact-grows : (J : Memory → Type 0) (R : Type 0) (q : State) (key count : ℕ) (before : Memory) (p : Phase) (m m' : Memory) (s s' : ShadowState) → Fact J R q key count before p m s → Appends m m'
+    → (s ≡ Stopped → (m' ≡ m) × (s' ≡ Stopped)) → Fact J R q key count before p m' s'
+Fact-grows J R q key count before fresh m m' s s' f g h = Appends-again before m m' f g
+Fact-grows J R q key count before keyed m m' s s' (k, f) g h = (k, Appends-again before m m' f g)
+Fact-grows J R q key count before (headed head) m m' s s' (k, f, e) g h = (k, Appends-again before m m' f g, e ∙ sym g.head)
+Fact-grows J R q key count before (judging log) m m' s s' (j, f) g h = (j, Appends-again log m m' f g)
+Fact-grows J R q key count before (found log) m m' s s' (j, f, l) g h = (j, Appends-again log m m' f g, l)
+Fact-grows J R q key count before (matching log) m m' s s' (j, f, l, k) g h = (j, Appends-again log m m' f g, l, k)
+Fact-grows J R q key count before (oldest log) m m' s s' (j, f, o) g h = (j, Appends-again log m m' f g, o)
+Fact-grows J R q key count before (settled asked) m m' s s' f g h = Outcome-grows J R q key count before asked m m' f g
+Fact-grows J R q key count before (missed log) m m' s s' f g h = f
+Fact-grows J R q key count before (halted log) m m' s s' (f, e) g h = (f, (h e).1)
+Fact-grows J R q key count before (headless log) m m' s s' (f, e, z) g h = subst (λ n. Fact J R q key count before (headless log) n s') (sym (h e).0) (f, (h e).1, z)
+Fact-grows J R q key count before (emptied log) m m' s s' (f, e, z) g h = subst (λ n. Fact J R q key count before (emptied log) n s') (sym (h e).0) (f, (h e).1, z)
+Fact-grows J R q key count before (boxing log j) m m' s s' (f, e, z, b) g h = subst (λ n. Fact J R q key count before (boxing log j) n s') (sym (h e).0) (f, (h e).1, z, b)
 
 -- a move of a stopped shadow does nothing
 abbrev Stays : Run → Run → Type 0
@@ -157,16 +186,16 @@ record Counts (d n : ℕ) (b : Bool) (t : Tally) : Type 0 where
   asked : t.asked ≡ b
 
 -- the call that the program makes in the state q is at a word of the stub, at its call, behind it, or the run is over
-data Passage (w : World) (q : State) (key count : ℕ) (before : Memory) (done restarts : ℕ) (r : Run) : Type 0 where
-  at_word : (t : Tally) (p : Phase) (k a b c : ℕ) (page : Memory) → LogRow q key p k a b c page → Fact q key count before p r.shared r.shadow.state → (k == 27) ≡ false
-      → Counts done restarts (is_asked p) t → side_of r ≡ stub_side q t k (three q.registers a b c) page → Passage w q key count before done restarts r
-  on_call : (t : Tally) (asked stalled : Bool) (page : Memory) → Outcome q key count before asked r.shared → Counts done restarts asked t
-      → side_of r ≡ record (stub_side q t 26 q.registers page) { stalled = stalled } → Passage w q key count before done restarts r
-  behind : (t : Tally) (asked : Bool) (s : State) (page : Memory) → Outcome q key count before asked r.shared → Counts (done + 1) restarts asked t
-      → side_of r ≡ called_side q s t page → Passage w q key count before done restarts r
-  ended : is_some r.end ≡ true → Passage w q key count before done restarts r
+data Passage (w : World) (J : Memory → Type 0) (R : Type 0) (q : State) (key count : ℕ) (before : Memory) (done restarts : ℕ) (r : Run) : Type 0 where
+  at_word : (t : Tally) (p : Phase) (k a b c : ℕ) (page : Memory) → LogRow q key p k a b c page → Fact J R q key count before p r.shared r.shadow.state → (k == 27) ≡ false
+      → Counts done restarts (is_asked p) t → side_of r ≡ stub_side q t k (three q.registers a b c) page → Passage w J R q key count before done restarts r
+  on_call : (t : Tally) (asked stalled : Bool) (page : Memory) → Outcome J R q key count before asked r.shared → Counts done restarts asked t
+      → side_of r ≡ record (stub_side q t 26 q.registers page) { stalled = stalled } → Passage w J R q key count before done restarts r
+  behind : (t : Tally) (asked : Bool) (s : State) (page : Memory) → Outcome J R q key count before asked r.shared → Counts (done + 1) restarts asked t
+      → side_of r ≡ called_side q s t page → Passage w J R q key count before done restarts r
+  ended : is_some r.end ≡ true → Passage w J R q key count before done restarts r
 
-module _ (w : World) (q : State) (fits : (i : ℕ) → q.registers i < 2 ^ 64) (place : q.pc < 2 ^ 64) (small_key : key_of (plan w q) < 2 ^ 64)
+module _ (w : World) (J : Memory → Type 0) (R : Type 0) (q : State) (fits : (i : ℕ) → q.registers i < 2 ^ 64) (place : q.pc < 2 ^ 64) (small_key : key_of (plan w q) < 2 ^ 64)
     (before : Memory) (order : log_head before ≤ log_tail before) (done restarts : ℕ) where
   abbrev key : ℕ
   key = key_of (plan w q)
@@ -175,11 +204,11 @@ module _ (w : World) (q : State) (fits : (i : ℕ) → q.registers i < 2 ^ 64) (
   count = q.registers 12
 
   abbrev Passes : Run → Type 0
-  Passes r = Passage w q key count before done restarts r
+  Passes r = Passage w J R q key count before done restarts r
 
   -- ---- the call
 
-  module _ (base : Run) (t : Tally) (asked : Bool) (page : Memory) (o : Outcome q key count before asked base.shared) (n : Counts done restarts asked t) where
+  module _ (base : Run) (t : Tally) (asked : Bool) (page : Memory) (o : Outcome J R q key count before asked base.shared) (n : Counts done restarts asked t) where
     abbrev the_call : Run
     the_call = with_side base (stub_side q t 26 q.registers page)
 
@@ -190,7 +219,7 @@ module _ (w : World) (q : State) (fits : (i : ℕ) → q.registers i < 2 ^ 64) (
     -- a call that is completed, whose put took k bytes
     completed : (whole : Bool) (k : ℕ) (c : CallPlan) (next : Run) → next.shared ≡ base.shared
         → side_of next ≡ called_side q (performed w.files k c q) (record t { done = t.done + 1; own = t.own + 1; whole = whole; gathered = 0 }) page → Passes next
-    completed whole k c next m is = behind _ asked (performed w.files k c q) page (subst (λ m. Outcome q key count before asked m) (sym m) o) (one_more whole) is
+    completed whole k c next m is = behind _ asked (performed w.files k c q) page (subst (λ m. Outcome J R q key count before asked m) (sym m) o) (one_more whole) is
 
     -- a look ends the run or leads behind the call
     look-passes : (x : Answer) (name : List ℕ) → Passes (look_done w x the_call name)
@@ -227,7 +256,7 @@ module _ (w : World) (q : State) (fits : (i : ℕ) → q.registers i < 2 ^ 64) (
   -- ---- an own move
 
   -- each word of the stub leads on
-  onward-passes : (t : Tally) (p : Phase) (next : Run) → Counts done restarts (is_asked p) t → Onward q key count before t p next → Passes next
+  onward-passes : (t : Tally) (p : Phase) (next : Run) → Counts done restarts (is_asked p) t → Onward J R q key count before t p next → Passes next
   onward-passes t p next n (to_row p' l a b c page row f same u is) = at_word t p' l a b c page row f u (subst (λ asked. Counts done restarts asked t) (sym same) n) is
   onward-passes t p next n (to_restarted c page s o first is) =
       let same : t.restarts ≡ restarts = n.restarts ∙ ap (λ asked. restarts_after asked restarts) first in
@@ -235,16 +264,20 @@ module _ (w : World) (q : State) (fits : (i : ℕ) → q.registers i < 2 ^ 64) (
   onward-passes t p next n (to_call asked page o same is) = on_call t asked false page o (subst (λ asked. Counts done restarts asked t) (sym same) n) is
 
   -- each own move that stays in the stub leads on
-  own-passes : (x : Answer) (r : Run) → r.end ≡ None → Passes r → (own_step w x r).view ≡ Stub → Passes (own_step w x r)
-  own-passes x r z (at_word t p k a b c page row f u n is) v =
-      placed w (λ (r : Run). Fact q key count before p r.shared r.shadow.state → Passes (own_step w x r)) r _ is
-      (λ f. onward-passes t p _ n (log_word_goes w x q t fits place small_key before order r p k a b c page row f)) f
-  own-passes x r z (on_call t asked true page o n is) v = placed w (λ (r : Run). Outcome q key count before asked r.shared → Passes (own_step w x r)) r _ is (λ o. on_call t asked true page o n refl) o
-  own-passes x r z (on_call t asked false page o n is) v =
-      placed w (λ (r : Run). Outcome q key count before asked r.shared → Passes (own_step w x r)) r _ is (λ o. call-passes r t asked page o n x (plan w q)) o
-  own-passes x r z (behind t asked s page o n is) v =
+  own-passes : (x : Answer) (r : Run) → r.end ≡ None → (r.own.pc ≡ judging_word → J r.shared) → (r.own.pc ≡ restart_word → r.own_done ≡ done → R) → Passes r → (own_step w x r).view ≡ Stub
+      → Passes (own_step w x r)
+  own-passes x r z now restart (at_word t p k a b c page row f u n is) v =
+      placed w (λ (r : Run). Fact J R q key count before p r.shared r.shadow.state → Passes (own_step w x r)) r _ is
+      (λ f.
+      onward-passes t p _ n
+      (log_word_goes J R w x q t fits place small_key before order r p k a b c page row f
+      (λ e. now (omega (arith, ap (λ p. p.own.pc) is, e))) (λ e. restart (omega (arith, ap (λ p. p.own.pc) is, e)) (ap (λ p. p.tally.done) is ∙ n.done)))) f
+  own-passes x r z now restart (on_call t asked true page o n is) v = placed w (λ (r : Run). Outcome J R q key count before asked r.shared → Passes (own_step w x r)) r _ is (λ o. on_call t asked true page o n refl) o
+  own-passes x r z now restart (on_call t asked false page o n is) v =
+      placed w (λ (r : Run). Outcome J R q key count before asked r.shared → Passes (own_step w x r)) r _ is (λ o. call-passes r t asked page o n x (plan w q)) o
+  own-passes x r z now restart (behind t asked s page o n is) v =
       placed w (λ (r : Run). (own_step w x r).view ≡ Stub → Passes (own_step w x r)) r _ is (λ v. program_stub v) v
-  own-passes x r z (ended e) v = false_true (ap is_some (sym z) ∙ e)
+  own-passes x r z now restart (ended e) v = false_true (ap is_some (sym z) ∙ e)
 
   -- ---- a fetch
 
@@ -268,9 +301,9 @@ module _ (w : World) (q : State) (fits : (i : ℕ) → q.registers i < 2 ^ 64) (
   -- a run with the same own side, link and state of the shadow
   same-passes : (r r' : Run) → side_of r' ≡ side_of r → r'.shared ≡ r.shared → r'.shadow.state ≡ r.shadow.state → Passes r → Passes r'
   same-passes r r' h m s (at_word t p k a b c page row f u n is) =
-      at_word t p k a b c page row (subst (λ x. Fact q key count before p x r'.shadow.state) (sym m) (subst (λ x. Fact q key count before p r.shared x) (sym s) f)) u n (h ∙ is)
-  same-passes r r' h m s (on_call t asked stalled page o n is) = on_call t asked stalled page (subst (λ x. Outcome q key count before asked x) (sym m) o) n (h ∙ is)
-  same-passes r r' h m s (behind t asked s' page o n is) = behind t asked s' page (subst (λ x. Outcome q key count before asked x) (sym m) o) n (h ∙ is)
+      at_word t p k a b c page row (subst (λ x. Fact J R q key count before p x r'.shadow.state) (sym m) (subst (λ x. Fact J R q key count before p r.shared x) (sym s) f)) u n (h ∙ is)
+  same-passes r r' h m s (on_call t asked stalled page o n is) = on_call t asked stalled page (subst (λ x. Outcome J R q key count before asked x) (sym m) o) n (h ∙ is)
+  same-passes r r' h m s (behind t asked s' page o n is) = behind t asked s' page (subst (λ x. Outcome J R q key count before asked x) (sym m) o) n (h ∙ is)
   same-passes r r' h m s (ended e) = ended (ap (λ p. is_some p.end) h ∙ e)
 
   -- so does the landing of a block
@@ -309,47 +342,42 @@ module _ (w : World) (q : State) (fits : (i : ℕ) → q.registers i < 2 ^ 64) (
 
       by_stage : Passes r → Passes next
       by_stage (at_word t p k a b c page row f u n is) =
-          at_word t p k a b c page row (Fact-grows q key count before p r.shared next.shared r.shadow.state next.shadow.state f g (stopped-stays w r m x s)) u n (same ∙ is)
-      by_stage (on_call t asked stalled page o n is) = on_call t asked stalled page (Outcome-grows q key count before asked r.shared next.shared o g) n (same ∙ is)
-      by_stage (behind t asked s' page o n is) = behind t asked s' page (Outcome-grows q key count before asked r.shared next.shared o g) n (same ∙ is)
+          at_word t p k a b c page row (Fact-grows J R q key count before p r.shared next.shared r.shadow.state next.shadow.state f g (stopped-stays w r m x s)) u n (same ∙ is)
+      by_stage (on_call t asked stalled page o n is) = on_call t asked stalled page (Outcome-grows J R q key count before asked r.shared next.shared o g) n (same ∙ is)
+      by_stage (behind t asked s' page o n is) = behind t asked s' page (Outcome-grows J R q key count before asked r.shared next.shared o g) n (same ∙ is)
       by_stage (ended e) = ended (ap (λ p. is_some p.end) same ∙ e)
 
   -- ---- each move
 
   -- each move that stays in the stub leads on
-  move-passes : (m : Move) (x : Answer) (r : Run) (e : Option RunEnd) → r.end ≡ e → Passes r → (step_unless e w r (m, x)).view ≡ Stub
+  move-passes : (m : Move) (x : Answer) (r : Run) (e : Option RunEnd) → r.end ≡ e → (m ≡ O → r.own.pc ≡ judging_word → J r.shared) → (m ≡ O → r.own.pc ≡ restart_word → r.own_done ≡ done → R) → Passes r → (step_unless e w r (m, x)).view ≡ Stub
       → (IsShadowMove m → Appends r.shared (step w r (m, x)).shared) → Passes (step_unless e w r (m, x))
-  move-passes m x r (Some e) z h v g = same-passes r _ refl refl refl h
-  move-passes O x r None z h v g = own-passes x (begun r) z (same-passes r (begun r) refl refl refl h) v
-  move-passes D x r None z h v g = fetch-passes (in_flight r.cache) x (begun r) (same-passes r (begun r) refl refl refl h)
-  move-passes S x r None z h v g = subst (λ e. Passes (step_unless e w r (S, x))) z (shadow-passes S x r tt (g tt) h)
-  move-passes T x r None z h v g = subst (λ e. Passes (step_unless e w r (T, x))) z (shadow-passes T x r tt (g tt) h)
-
-  -- so does each list of moves
-  run-passes : (ms : Moves) (r : Run) → Passes r → Passing w r ms → Passes (run_from w r ms)
-  unfolding run_from
-  run-passes [] r h p = h
-  run-passes (m ∷ ms) r h p = run-passes ms (step w r m) (move-passes m.0 m.1 r r.end refl h (passing-view w ms (step w r m) p.2) p.1) p.2
+  move-passes m x r (Some e) z now restart h v g = same-passes r _ refl refl refl h
+  move-passes O x r None z now restart h v g = own-passes x (begun r) z (now refl) (restart refl) (same-passes r (begun r) refl refl refl h) v
+  move-passes D x r None z now restart h v g = fetch-passes (in_flight r.cache) x (begun r) (same-passes r (begun r) refl refl refl h)
+  move-passes S x r None z now restart h v g = subst (λ e. Passes (step_unless e w r (S, x))) z (shadow-passes S x r tt (g tt) h)
+  move-passes T x r None z now restart h v g = subst (λ e. Passes (step_unless e w r (T, x))) z (shadow-passes T x r tt (g tt) h)
 
   -- ---- the word that leaves the stub
 
   -- at the word that leaves the stub the call is behind the own hart
-  passage-ends : (gate leave : Run) → gate.at_gate ≡ q → gate.shared ≡ before → gate.own_done ≡ done → gate.restarts ≡ restarts → Passes leave → IsLeaving leave → IsPassage w gate leave
-  passage-ends gate leave g m d n (at_word t p k a b c page row f u count is) l =
+  passage-ends : (gate leave : Run) (on : Moves) → gate.at_gate ≡ q → gate.shared ≡ before → gate.own_done ≡ done → gate.restarts ≡ restarts → ((m : Memory) → J m → IsJudged w gate on m) → (R → IsRestarted w gate on) → Passes leave → IsLeaving leave → IsPassage w gate on leave
+  passage-ends gate leave on g m d n jm rm (at_word t p k a b c page row f u count is) l =
       let last : k ≡ 27 = omega (arith, ap (λ p. p.own.pc) is, l.word) in
       false_true (sym u ∙ ap (λ k. k == 27) last)
-  passage-ends gate leave g m d n (on_call t asked stalled page o count is) l =
+  passage-ends gate leave on g m d n jm rm (on_call t asked stalled page o count is) l =
       absurd (omega (arith, ap (λ p. p.own.pc) is, l.word))
-  passage-ends gate leave g m d n (ended e) l = false_true (ap is_some (sym l.goes_on) ∙ e)
-  passage-ends gate leave g m d n (behind t asked s page o c is) l =
+  passage-ends gate leave on g m d n jm rm (ended e) l = false_true (ap is_some (sym l.goes_on) ∙ e)
+  passage-ends gate leave on g m d n jm rm (behind t asked s page o c is) l =
       let met : leave.at_gate ≡ q = ap (λ p. p.gate) is in
       let was_asked : leave.asked ≡ asked = ap (λ p. p.tally.asked) is ∙ c.asked in
       record {
         same_call = met ∙ sym g;
         one_done = ap (λ p. p.tally.done) is ∙ c.done ∙ ap (λ d. d + 1) (sym d);
         restarts = ap (λ p. p.tally.restarts) is ∙ c.restarts ∙ ap₂ (λ asked n. restarts_after asked n) (sym was_asked) (sym n);
-        log = subst (λ q. Outcome q (key_of (plan w q)) (reg q.registers 12) gate.shared leave.asked leave.shared) (sym g)
-            (subst (λ m. Outcome q key count m leave.asked leave.shared) (sym m) (subst (λ asked. Outcome q key count before asked leave.shared) (sym was_asked) o));
+        log = subst (λ q. Outcome (IsJudged w gate on) (IsRestarted w gate on) q (key_of (plan w q)) (reg q.registers 12) gate.shared leave.asked leave.shared) (sym g)
+            (subst (λ m. Outcome (IsJudged w gate on) (IsRestarted w gate on) q key count m leave.asked leave.shared) (sym m)
+            (subst (λ asked. Outcome (IsJudged w gate on) (IsRestarted w gate on) q key count before asked leave.shared) (sym was_asked) (Outcome-map jm rm o)));
       }
 
 -- ---- what an own move takes
@@ -382,7 +410,7 @@ call-shares w x r (Read d spot a) = let g : Gathered = gather r.cache r.gathered
 call-shares w x r (Write to_out a n) = write-shares w x r to_out a n
 call-shares w x r (Exit code) = refl
 
-module _ (w : World) (x : Answer) (q : State) (t : Tally) (before : Memory) where
+module _ (J : Memory → Type 0) (R : Type 0) (w : World) (x : Answer) (q : State) (t : Tally) (before : Memory) where
   abbrev the_key : ℕ
   the_key = key_of (plan_of w.image.layout q)
 
@@ -391,7 +419,7 @@ module _ (w : World) (x : Answer) (q : State) (t : Tally) (before : Memory) wher
   shares e f = leaves (ap (λ (r : Run). r.shared) e ∙ f)
 
   -- each word of the stub: word 22 takes the pair that was judged, which is still the oldest
-  word-takes : (r : Run) (p : Phase) (k a b c : ℕ) (page : Memory) → LogRow q the_key p k a b c page → Fact q the_key (q.registers 12) before p r.shared r.shadow.state → TakesOldest r (after_word w x q t r k a b c page)
+  word-takes : (r : Run) (p : Phase) (k a b c : ℕ) (page : Memory) → LogRow q the_key p k a b c page → Fact J R q the_key (q.registers 12) before p r.shared r.shadow.state → TakesOldest r (after_word w x q t r k a b c page)
   word-takes r _ _ a b c page r1 f = shares (word_1 w x q t r _ _ _ page) refl
   word-takes r _ _ a b c page (r2 s) f = shares (word_2 w x q t r _ _ _ page) refl
   word-takes r _ _ a b c page (r3 s) f = shares (word_3 w x q t r _ _ the_key page) refl
@@ -441,15 +469,15 @@ beside-takes r side next (leaves e) = leaves e
 beside-takes r side next (takes_pair l e) = takes_pair l e
 beside-takes r side next (is_halted e) = is_halted e
 
-module _ (w : World) (q : State) (before : Memory) (done restarts : ℕ) where
+module _ (J : Memory → Type 0) (R : Type 0) (w : World) (q : State) (before : Memory) (done restarts : ℕ) where
   abbrev Passed : Run → Type 0
-  Passed r = Passage w q (key_of (plan w q)) (q.registers 12) before done restarts r
+  Passed r = Passage w J R q (key_of (plan w q)) (q.registers 12) before done restarts r
 
   -- each own move
   own-takes : (x : Answer) (r : Run) → r.end ≡ None → Passed r → TakesOldest r (own_step w x r)
   own-takes x r z (at_word t p k a b c page row f u n is) =
-      placed w (λ (r : Run). Fact q (key_of (plan w q)) (q.registers 12) before p r.shared r.shadow.state → TakesOldest r (own_step w x r)) r _ is
-      (λ f. beside-takes r (stub_side q t k (three q.registers a b c) page) _ (word-takes w x q t before r p k a b c page row f)) f
+      placed w (λ (r : Run). Fact J R q (key_of (plan w q)) (q.registers 12) before p r.shared r.shadow.state → TakesOldest r (own_step w x r)) r _ is
+      (λ f. beside-takes r (stub_side q t k (three q.registers a b c) page) _ (word-takes J R w x q t before r p k a b c page row f)) f
   own-takes x r z (on_call t asked true page o n is) = placed w (λ (r : Run). TakesOldest r (own_step w x r)) r _ is (leaves refl)
   own-takes x r z (on_call t asked false page o n is) =
       placed w (λ (r : Run). TakesOldest r (own_step w x r)) r _ is (leaves (call-shares w x (with_side r (stub_side q t 26 q.registers page)) (plan w q)))
@@ -472,9 +500,91 @@ module _ (w : World) (q : State) (before : Memory) (done restarts : ℕ) where
       begun-passes (behind t asked s page o n is) = behind t asked s page o n is
       begun-passes (ended e) = ended e
 
+-- ---- the moves behind a gate
+
+-- one move more
+run_from-snoc : (w : World) (r : Run) (ms : Moves) (m : Move × Answer) → run_from w r (ms ++ m ∷ []) ≡ step w (run_from w r ms) m
+unfolding run_from
+run_from-snoc w r [] m = refl
+run_from-snoc w r (n ∷ ms) m = run_from-snoc w (step w r n) ms m
+
+-- no move
+nothing-on : (w : World) (r : Run) → run_from w r [] ≡ r
+unfolding run_from
+nothing-on w r = refl
+
+module _ (w : World) (gate : Run) where
+  judged-more : (on : Moves) (m : Move × Answer) (log : Memory) → IsJudged w gate on log → IsJudged w gate (on ++ m ∷ []) log
+  judged-more on m log j =
+      record {
+        before = j.before;
+        answer = j.answer;
+        behind = j.behind ++ m ∷ [];
+        moves = ap (λ ms. ms ++ m ∷ []) j.moves ∙ append_assoc j.before ((O, j.answer) ∷ j.behind) (m ∷ []);
+        word = j.word;
+        found = j.found;
+      }
+
+  restarted-more : (on : Moves) (m : Move × Answer) → IsRestarted w gate on → IsRestarted w gate (on ++ m ∷ [])
+  restarted-more on m j =
+      record {
+        before = j.before;
+        answer = j.answer;
+        behind = j.behind ++ m ∷ [];
+        moves = ap (λ ms. ms ++ m ∷ []) j.moves ∙ append_assoc j.before ((O, j.answer) ∷ j.behind) (m ∷ []);
+        word = j.word;
+        undone = j.undone;
+      }
+
+  module _ (q : State) (fits : (i : ℕ) → q.registers i < 2 ^ 64) (place : q.pc < 2 ^ 64) (small_key : key_of (plan w q) < 2 ^ 64) (before : Memory) (order : log_head before ≤ log_tail before) (restarts : ℕ) where
+    abbrev At : Moves → Run → Type 0
+    At on r = Passage w (IsJudged w gate on) (IsRestarted w gate on) q (key_of (plan w q)) (q.registers 12) before gate.own_done restarts r
+
+    -- the same run, behind one move more
+    one-behind : (on : Moves) (m : Move × Answer) (r : Run) → At on r → At (on ++ m ∷ []) r
+    one-behind on m r (at_word t p k a b c page row f u n is) = at_word t p k a b c page row (Fact-map q (key_of (plan w q)) (q.registers 12) before p r.shared r.shadow.state (λ log. judged-more on m log) (restarted-more on m) f) u n is
+    one-behind on m r (on_call t asked stalled page o n is) = on_call t asked stalled page (Outcome-map (λ log. judged-more on m log) (restarted-more on m) o) n is
+    one-behind on m r (behind t asked s page o n is) = behind t asked s page (Outcome-map (λ log. judged-more on m log) (restarted-more on m) o) n is
+    one-behind on m r (ended e) = ended e
+
+    -- a list of moves leads on
+    run-passes : (on ms : Moves) (r : Run) → run_from w gate on ≡ r → At on r → Passing w r ms → At (on ++ ms) (run_from w r ms)
+    unfolding run_from
+    run-passes on [] r e h p = subst (λ ms. At ms r) (sym (append-nil on)) h
+    run-passes on (m ∷ ms) r e h p =
+        let then : Moves = on ++ m ∷ [] in
+        let one : At then (step w r m) =
+        move-passes w (IsJudged w gate then) (IsRestarted w gate then) q fits place small_key before order gate.own_done restarts m.0 m.1 r r.end refl (judge m) (restart m) (one-behind on m r h)
+        (passing-view w ms (step w r m) p.2) p.1 in
+        subst (λ all. At all (run_from w (step w r m) ms)) (append_assoc on (m ∷ []) ms)
+        (run-passes then ms (step w r m) (run_from-snoc w gate on m ∙ ap (λ (r : Run). step w r m) e) one p.2)
+      where
+        judge : (m : Move × Answer) → m.0 ≡ O → r.own.pc ≡ judging_word → IsJudged w gate (on ++ m ∷ []) r.shared
+        judge m is at =
+            record {
+              before = on;
+              answer = m.1;
+              behind = [];
+              moves = ap (λ (n : Move). on ++ (n, m.1) ∷ []) is;
+              word = ap (λ (r : Run). r.own.pc) e ∙ at;
+              found = ap (λ (r : Run). r.shared) e;
+            }
+
+        restart : (m : Move × Answer) → m.0 ≡ O → r.own.pc ≡ restart_word → r.own_done ≡ gate.own_done → IsRestarted w gate (on ++ m ∷ [])
+        restart m is at undone =
+            record {
+              before = on;
+              answer = m.1;
+              behind = [];
+              moves = ap (λ (n : Move). on ++ (n, m.1) ∷ []) is;
+              word = ap (λ (r : Run). r.own.pc) e ∙ at;
+              undone = ap (λ (r : Run). r.own_done) e ∙ undone;
+            }
+
 -- behind a gate the call is in passage
 passes_on : (w : World) → Accepted w → (ms : Moves) (x : Answer) (on : Moves) → let program = run w ms in let gate = step w program (O, x) in
-    program.view ≡ Program → IsLog program.shared → Passing w gate on → Passage w program.own (key_of (plan w program.own)) (program.own.registers 12) gate.shared gate.own_done gate.restarts (run_from w gate on)
+    program.view ≡ Program → IsLog program.shared → Passing w gate on
+    → Passage w (IsJudged w gate on) (IsRestarted w gate on) program.own (key_of (plan w program.own)) (program.own.registers 12) gate.shared gate.own_done gate.restarts (run_from w gate on)
 passes_on w a ms x on p log passing =
     let program : Run = run w ms in
     let gate : Run = step w program (O, x) in
@@ -482,18 +592,18 @@ passes_on w a ms x on p log passing =
     let q : State = program.own in
     let order' : log_head gate.shared ≤ log_tail gate.shared = subst (λ m. log_head m ≤ log_tail m) (sym y.shared) log.order in
     let below' : log_tail gate.shared < 2 ^ 64 = subst (λ m. log_tail m < 2 ^ 64) (sym y.shared) log.below in
-    let start : Passage w q (key_of (plan w q)) (q.registers 12) gate.shared gate.own_done gate.restarts gate =
+    let start : Passage w (IsJudged w gate []) (IsRestarted w gate []) q (key_of (plan w q)) (q.registers 12) gate.shared gate.own_done gate.restarts gate =
     at_word y.tally fresh 1 _ _ _ y.page r1 (Appends-same gate.shared below') refl
     (record { done = sym (ap (λ p. p.tally.done) y.side); restarts = sym (ap (λ p. p.tally.restarts) y.side); asked = y.asked })
     (y.side ∙ ap (λ rs. stub_side q y.tally 1 rs y.page) (sym (three-own q.registers))) in
-    run-passes w q y.fits y.place y.key gate.shared order' gate.own_done gate.restarts on gate start passing
+    run-passes w gate q y.fits y.place y.key gate.shared order' gate.restarts [] on gate (nothing-on w gate) start passing
 
 -- each own move behind it leaves what is shared, takes the oldest pair, or finds the shadow stopped
 pub stub_takes_oldest : StubTakesOldest
 stub_takes_oldest w a ms x on y p log passing =
     let program : Run = run w ms in
     let gate : Run = step w program (O, x) in
-    let r : Run = run_from w gate on in step-takes w program.own gate.shared gate.own_done gate.restarts y r r.end refl (passes_on w a ms x on p log passing)
+    let r : Run = run_from w gate on in step-takes (IsJudged w gate on) (IsRestarted w gate on) w program.own gate.shared gate.own_done gate.restarts y r r.end refl (passes_on w a ms x on p log passing)
 
 -- what a passage does to the log
 pub stub_keeps_log : StubKeepsLog
@@ -504,9 +614,10 @@ stub_keeps_log w a ms x on p log passing leaving =
     let q : State = program.own in
     let order' : log_head gate.shared ≤ log_tail gate.shared = subst (λ m. log_head m ≤ log_tail m) (sym y.shared) log.order in
     let below' : log_tail gate.shared < 2 ^ 64 = subst (λ m. log_tail m < 2 ^ 64) (sym y.shared) log.below in
-    let start : Passage w q (key_of (plan w q)) (q.registers 12) gate.shared gate.own_done gate.restarts gate =
+    let start : Passage w (IsJudged w gate []) (IsRestarted w gate []) q (key_of (plan w q)) (q.registers 12) gate.shared gate.own_done gate.restarts gate =
     at_word y.tally fresh 1 _ _ _ y.page r1 (Appends-same gate.shared below') refl
     (record { done = sym (ap (λ p. p.tally.done) y.side); restarts = sym (ap (λ p. p.tally.restarts) y.side); asked = y.asked })
     (y.side ∙ ap (λ rs. stub_side q y.tally 1 rs y.page) (sym (three-own q.registers))) in
-    passage-ends w q y.fits y.place y.key gate.shared order' gate.own_done gate.restarts gate (run_from w gate on) (ap (λ p. p.gate) y.side) refl refl refl
-    (run-passes w q y.fits y.place y.key gate.shared order' gate.own_done gate.restarts on gate start passing) leaving
+    passage-ends w (IsJudged w gate on) (IsRestarted w gate on) q y.fits y.place y.key gate.shared order' gate.own_done gate.restarts gate (run_from w gate on) on (ap (λ p. p.gate) y.side) refl refl refl
+    (λ log j. j) (λ z. z)
+    (run-passes w gate q y.fits y.place y.key gate.shared order' gate.restarts [] on gate (nothing-on w gate) start passing) leaving

@@ -56,7 +56,7 @@ abbrev pub LogIsKept : Type 0
 LogIsKept =
     (w : World) → Accepted w → (ms : Moves) (x : Answer) (on : Moves) → length ms + 1 + length on < 2 ^ 64 - 1 →
     let program = run w ms in let gate = step w program (O, x) in let leave = run_from w gate on in
-    program.view ≡ Program → StaysInStub w gate on → IsLeaving leave → IsPassage w gate leave
+    program.view ≡ Program → StaysInStub w gate on → IsLeaving leave → IsPassage w gate on leave
 
 -- ---- a call's block
 

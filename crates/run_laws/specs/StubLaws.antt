@@ -1,5 +1,5 @@
 -- A passage through the stub: one call is performed, and the hint log is left, loses its oldest pair, or is emptied before a restart (this project's own).
-use Rattle.std.specs.Prelude.{ℕ, ◌+◌, ◌*◌, ◌^◌, ◌≡◌, ◌≢◌, ◌≤◌, ◌<◌, ⊤, Bool, true, false, [], ◌∷◌, Some, None}
+use Rattle.std.specs.Prelude.{ℕ, ◌+◌, ◌*◌, ◌^◌, ◌≡◌, ◌≢◌, ◌≤◌, ◌<◌, ⊤, Bool, true, false, [], ◌∷◌, ◌++◌, Some, None}
 use Rattle.spec_base.specs.Layout.{stub_start, link_start}
 use Rattle.spec_base.specs.declared.machine.View.TheVariants.{Program, Stub}
 use Rattle.spec_base.specs.declared.note.Move.TheVariants.{O}
@@ -92,13 +92,38 @@ pub record IsBoxed (link : Memory) (s : State) : Type 0 where
   pub site : boxed_site link ≡ s.pc
   pub registers : (i : ℕ) → i ≤ 31 → boxed link i ≡ reg s.registers i
 
+-- the stub's word 9, which loads the log's tail, and word 70, HRESTART
+abbrev pub judging_word : ℕ
+judging_word = stub_start + 4 * 8
+
+abbrev pub restart_word : ℕ
+restart_word = stub_start + 4 * 69
+
+-- in these moves behind a gate the call is judged by this log: the own hart made a move at word 9, and the log was this before it
+pub record IsJudged (w : World) (gate : Run) (on : Moves) (log : Memory) : Type 0 where
+  pub before : Moves
+  pub answer : Answer
+  pub behind : Moves
+  pub moves : on ≡ before ++ (O, answer) ∷ behind
+  pub word : (run_from w gate before).own.pc ≡ judging_word
+  pub found : (run_from w gate before).shared ≡ log
+
+-- the shadow is restarted: the own hart made a move at word 70, and the call wasn't performed before it
+pub record IsRestarted (w : World) (gate : Run) (on : Moves) : Type 0 where
+  pub before : Moves
+  pub answer : Answer
+  pub behind : Moves
+  pub moves : on ≡ before ++ (O, answer) ∷ behind
+  pub word : (run_from w gate before).own.pc ≡ restart_word
+  pub undone : (run_from w gate before).own_done ≡ gate.own_done
+
 -- what becomes of the log in a call with this key and count, and whether the shadow is restarted for it. A keyed call is judged at one moment, by the log as it is then
-pub data Outcome (q : State) (key count : ℕ) (before : Memory) : Bool → Memory → Type 0 where
-  keyless : {after : Memory} → key ≡ 0 → Appends before after → Outcome q key count before false after
-  takes : {after : Memory} (judged : Memory) → 0 < key → Appends before judged → IsOldest judged key count
-      → Appends (without_oldest judged) after → Outcome q key count before false after
-  empties : {after : Memory} (judged emptied : Memory) → 0 < key → Appends before judged → (IsOldest judged key count → ⊥)
-      → IsEmpty emptied → IsBoxed emptied q → Appends emptied after → Outcome q key count before true after
+pub data Outcome (Judges : Memory → Type 0) (Restarts : Type 0) (q : State) (key count : ℕ) (before : Memory) : Bool → Memory → Type 0 where
+  keyless : {after : Memory} → key ≡ 0 → Appends before after → Outcome Judges Restarts q key count before false after
+  takes : {after : Memory} (judged : Memory) → Judges judged → 0 < key → Appends before judged → IsOldest judged key count
+      → Appends (without_oldest judged) after → Outcome Judges Restarts q key count before false after
+  empties : {after : Memory} (judged emptied : Memory) → Judges judged → Restarts → 0 < key → Appends before judged → (IsOldest judged key count → ⊥)
+      → IsEmpty emptied → IsBoxed emptied q → Appends emptied after → Outcome Judges Restarts q key count before true after
 
 -- ---- a passage
 
@@ -112,19 +137,19 @@ abbrev pub restarts_after : Bool → ℕ → ℕ
 restarts_after true n = n + 1
 restarts_after false n = n
 
--- from the gate, which the own hart met in the state q, to the word that leaves the stub
-pub record IsPassage (w : World) (gate leave : Run) : Type 0 where
+-- from the gate, which the own hart met in the state q, by these moves to the word that leaves the stub
+pub record IsPassage (w : World) (gate : Run) (on : Moves) (leave : Run) : Type 0 where
   pub same_call : leave.at_gate ≡ gate.at_gate
   pub one_done : leave.own_done ≡ gate.own_done + 1
   pub restarts : leave.restarts ≡ restarts_after leave.asked gate.restarts
-  pub log : Outcome gate.at_gate (key_of (plan_of w.image.layout gate.at_gate)) (reg gate.at_gate.registers 12) gate.shared leave.asked leave.shared
+  pub log : Outcome (IsJudged w gate on) (IsRestarted w gate on) gate.at_gate (key_of (plan_of w.image.layout gate.at_gate)) (reg gate.at_gate.registers 12) gate.shared leave.asked leave.shared
 
 -- an own move meets a gate of the program, and in the moves behind it the own hart comes to leave the stub.
 abbrev pub StubKeepsLog : Type 0
 StubKeepsLog =
     (w : World) → Accepted w → (ms : Moves) (x : Answer) (on : Moves) →
     let program = run w ms in let gate = step w program (O, x) in let leave = run_from w gate on in
-    program.view ≡ Program → IsLog program.shared → Passing w gate on → IsLeaving leave → IsPassage w gate leave
+    program.view ≡ Program → IsLog program.shared → Passing w gate on → IsLeaving leave → IsPassage w gate on leave
 
 -- an own move leaves what is shared, takes the oldest pair of a log that has one, or finds the shadow stopped
 pub data TakesOldest (r next : Run) : Type 0 where

@@ -59,12 +59,12 @@ passing-snoc w r [] m h v f = (h, f, v)
 passing-snoc w r (n ∷ on) m h v f = (h.0, h.1, passing-snoc w (step w r n) on m h.2 v f)
 
 -- what becomes of a log in a passage is in order
-outcome-log : {q : State} {key count : ℕ} {before after : Memory} {asked : Bool} → IsLog before → Outcome q key count before asked after → IsLog after
+outcome-log : {J : Memory → Type 0} {R : Type 0} {q : State} {key count : ℕ} {before after : Memory} {asked : Bool} → IsLog before → Outcome J R q key count before asked after → IsLog after
 outcome-log g (keyless k f) = record { order = omega (arith, f.head, f.tail, g.order); below = f.below }
-outcome-log g (takes judged k j o f) =
+outcome-log g (takes judged t k j o f) =
     let head : log_head (without_oldest judged) ≡ log_head judged + 1 = loaded-stored judged 0x4200_0000 (log_head judged + 1) (omega (arith, j.below, o.some)) in
     record { order = omega (arith, f.head, head, f.tail, tail-head_stored judged (log_head judged + 1), o.some); below = f.below }
-outcome-log g (empties judged emptied k j n e b f) = record { order = omega (arith, f.head, e.head); below = f.below }
+outcome-log g (empties judged emptied t z k j n e b f) = record { order = omega (arith, f.head, e.head); below = f.below }
 
 -- ---- views
 
@@ -321,7 +321,7 @@ module _ (w : World) (a : Accepted w) where
         left-log v =
             let l = leaves-stub x (begun (run w before)) z (own_side w a before) in-stub (ap (λ (y : Run). y.view) (sym is-own) ∙ v) in
             let leaving : IsLeaving (run w before) = record { view = l.0.view; word = l.0.word; goes_on = z } in
-            let passage : IsPassage w gate (run_from w gate on) = stub_keeps_log w a ms y on p g h (subst (λ (y : Run). IsLeaving y) (sym e) leaving) in
+            let passage : IsPassage w gate on (run_from w gate on) = stub_keeps_log w a ms y on p g h (subst (λ (y : Run). IsLeaving y) (sym e) leaving) in
             let gate-log : IsLog gate.shared = subst (λ (m : Memory). IsLog m) (sym (gate-shared y (run w ms) p)) g in
             let leave-log : IsLog (run_from w gate on).shared = outcome-log gate-log passage.log in
             subst (λ (m : Memory). IsLog m) (ap (λ (y : Run). y.shared) e ∙ sym (ap (λ (y : Run). y.shared) is-own ∙ l.1)) leave-log
