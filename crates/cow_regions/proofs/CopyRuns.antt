@@ -43,7 +43,7 @@ uncopied-most s region (suc n) = by_case (entry_of s region == 0) refl (uncopied
     by_case false e most = omega (arith, ap length (uncopied-old s region n (suc n) refl e), most)
 
 -- they depend on their own entries alone
-uncopied-same : (s t : Memory) (region n : ℕ) → ((x : ℕ) → region ≤ x → x < region + n → entry_of t x ≡ entry_of s x) → uncopied t region n ≡ uncopied s region n
+pub uncopied-same : (s t : Memory) (region n : ℕ) → ((x : ℕ) → region ≤ x → x < region + n → entry_of t x ≡ entry_of s x) → uncopied t region n ≡ uncopied s region n
 uncopied-same s t region zero same = uncopied-none t region zero refl ∙ sym (uncopied-none s region zero refl)
 uncopied-same s t region (suc n) same = by_case (entry_of s region == 0) refl (uncopied-same s t (region + 1) n (λ x low high. same x (omega arith) (omega arith)))
   where
@@ -79,7 +79,7 @@ module _ (l : Layout) (words : List ℕ) (program s : Memory) (region : ℕ) whe
 pub record AreMade (l : Layout) (words : List ℕ) (program old now : Memory) (first region end : ℕ) : Type 0 where
   pub rest : with_copies l words program now (uncopied now region (end - region)) ≡ with_copies l words program old (uncopied old first (end - first))
   pub room : slots_in_use now + length (uncopied now region (end - region)) ≤ l.regions
-  pub consistent : AreConsistent l now
+  pub consistent : AreConsistent l old → AreConsistent l now
   pub kept : KeepsSlots l old now
   pub copied : (x : ℕ) → first ≤ x → x < region → 0 < entry_of now x
 
@@ -147,7 +147,7 @@ module _ (l : Layout) (few : l.regions ≤ 65536) (words : List ℕ) (program ol
         record {
           rest = rest-new;
           room = room-new;
-          consistent = consistent-next l few words program now region here room before.consistent;
+          consistent = λ ok. consistent-next l few words program now region here room (before.consistent ok);
           kept = λ x h some. keeps x h some (x == region) refl;
           copied = λ x low high. each x low high (x == region) refl;
         }
@@ -177,8 +177,8 @@ pub record IsMade (s t : Space) (first region end : ℕ) : Type 0 where
   pub frame : t ≡ record s { shared = t.shared }
   pub made : AreMade s.layout s.text s.program s.shared t.shared first region end
 
-pub IsMade-start : (s : Space) (first end : ℕ) → AreConsistent s.layout s.shared → slots_in_use s.shared + length (uncopied s.shared first (end - first)) ≤ s.layout.regions → IsMade s s first first end
-IsMade-start s first end ok room = record { frame = refl; made = record { rest = refl; room = room; consistent = ok; kept = λ x h some. refl; copied = λ x low high. absurd (omega arith) } }
+pub IsMade-start : (s : Space) (first end : ℕ) → slots_in_use s.shared + length (uncopied s.shared first (end - first)) ≤ s.layout.regions → IsMade s s first first end
+IsMade-start s first end room = record { frame = refl; made = record { rest = refl; room = room; consistent = λ ok. ok; kept = λ x h some. refl; copied = λ x low high. absurd (omega arith) } }
 
 pub IsMade-more : (s t u : Space) (first region end : ℕ) → s.layout.regions ≤ 65536 → IsMade s t first region end → region < end → end ≤ all_regions s.layout
     → u ≡ record t { shared = with_copies t.layout t.text t.program t.shared (uncopied t.shared region 1) } → IsMade s u first (region + 1) end

@@ -5,3 +5,5 @@ pub mod RangeBytes
 pub mod Copies
 pub mod CopyRuns
 pub mod SetBytes
+pub mod SharedBytes
+pub mod FilledViews

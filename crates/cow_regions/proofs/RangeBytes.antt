@@ -90,7 +90,7 @@ module _ (h : Held) (a n : ℕ) (inside : IsTrue (all_from (in_range (space_of h
 
 -- ---- the bytes of a region
 
-whole-regions : (v : Version) → range_end v ≡ 256 * (range_end v / 256)
+pub whole-regions : (v : Version) → range_end v ≡ 256 * (range_end v / 256)
 whole-regions One = refl
 whole-regions Two = refl
 

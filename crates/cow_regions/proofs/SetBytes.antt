@@ -8,6 +8,7 @@ use Rattle.rv_model.specs.Memory.{Memory, patched, written}
 use Rattle.rv_model.specs.Space.{Space}
 use Rattle.code_model.specs.Regions.{entry_of, slot_address, copy_place, set_in_copies}
 use Rattle.code_model.specs.Tables.{AreConsistent, all_regions}
+use Rattle.cow_regions.specs.Fills.{SharesAlone, IsSet}
 use Rattle.cow_regions.proofs.Copies.{consistent-above, entry-above}
 use Rattle.cow_regions.proofs.RangeBytes.{patched-none, patched-alike, patched-more}
 
@@ -115,5 +116,24 @@ AreSet-more s t u a bytes i end few before order last inside fits e =
       entries = λ x h. ap (λ (m : Memory). entry_of m x) after ∙ entry-above s.layout few t.shared place (length piece) (λ j. get_or piece j 0) above x h ∙ before.entries x h;
     }
 
+-- the next byte's region has the slot that it had, which the layout has
+pub AreSet-slot : (s t : Space) (a : ℕ) (bytes : List ℕ) (i x : ℕ) → AreSet s t a bytes i → AreConsistent s.layout s.shared → 0 < entry_of s.shared (x / 256) → x / 256 < all_regions s.layout
+    → (0 < entry_of t.shared (x / 256)) × (entry_of t.shared (x / 256) ≤ t.layout.regions)
+AreSet-slot s t a bytes i x before ok some inside =
+    let same : entry_of t.shared (x / 256) ≡ entry_of s.shared (x / 256) = before.entries (x / 256) inside in
+    (omega (arith, same, some), omega (arith, same, ok.count, (ok.entry (x / 256) inside some).0, ap (λ (w : Space). w.layout.regions) before.frame))
+
 pub AreSet-end : (s t : Space) (a : ℕ) (bytes : List ℕ) (i : ℕ) → drop i bytes ≡ [] → AreSet s t a bytes i → t ≡ record s { shared = set_in_copies s.shared a bytes }
 AreSet-end s t a bytes i e before = before.frame ∙ ap (λ (m : Memory). record s { shared = m }) (sym (set-none t.shared (a + i) (drop i bytes) e) ∙ before.rest)
+
+pub IsSet-from : (s t : Space) (a : ℕ) (bytes : List ℕ) (i : ℕ) → drop i bytes ≡ [] → AreSet s t a bytes i → IsSet s a bytes t
+IsSet-from s t a bytes i e before = record { space = AreSet-end s t a bytes i e before; consistent = before.consistent; kept = λ region h some. before.entries region h }
+
+-- ---- only what is shared changes
+
+pub shares-more : (s t u : Space) → SharesAlone s t → SharesAlone t u → SharesAlone s u
+shares-more s t u e f = f ∙ ap (λ (w : Space). record w { shared = u.shared }) e
+
+-- where it becomes this memory
+pub shares-as : (s t : Space) (m : Memory) → t ≡ record s { shared = m } → SharesAlone s t
+shares-as s t m e = e ∙ ap (λ (m : Memory). record s { shared = m }) (sym (ap (λ (w : Space). w.shared) e))

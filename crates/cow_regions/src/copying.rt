@@ -37,10 +37,9 @@ pub(crate) fn make_copies(mem: &mut Mem, first: u32, end: u32)
     requires above { 16 ≤ first }
     requires order { first ≤ end }
     requires inside { end ≤ all_regions (space_of mem.old).layout }
-    requires consistent { AreConsistent (space_of mem.old).layout (space_of mem.old).shared }
     requires room { slots_in_use (space_of mem.old).shared + length (uncopied (space_of mem.old).shared first (end - first)) ≤ (space_of mem.old).layout.regions }
     ensures space { space_of mem.new ≡ record (space_of mem.old) { shared = with_copies (space_of mem.old).layout (space_of mem.old).text (space_of mem.old).program (space_of mem.old).shared (uncopied (space_of mem.old).shared first (end - first)) } }
-    ensures consistent { AreConsistent (space_of mem.old).layout (space_of mem.new).shared }
+    ensures consistent { AreConsistent (space_of mem.old).layout (space_of mem.old).shared → AreConsistent (space_of mem.old).layout (space_of mem.new).shared }
     ensures kept { KeepsSlots (space_of mem.old).layout (space_of mem.old).shared (space_of mem.new).shared }
     ensures copied { (region : ℕ) → first ≤ region → region < end → 0 < entry_of (space_of mem.new).shared region }
     ensures spare { spare_of mem.new ≡ spare_of mem.old }
@@ -55,7 +54,6 @@ fn make_copy(mem: &mut Mem, region: u32)
     requires few { (space_of mem.old).layout.regions ≤ 65536 }
     requires above { 16 ≤ region }
     requires inside { region < all_regions (space_of mem.old).layout }
-    requires consistent { AreConsistent (space_of mem.old).layout (space_of mem.old).shared }
     requires room { entry_of (space_of mem.old).shared region ≡ 0 → slots_in_use (space_of mem.old).shared < (space_of mem.old).layout.regions }
     ensures space { space_of mem.new ≡ record (space_of mem.old) { shared = with_copies (space_of mem.old).layout (space_of mem.old).text (space_of mem.old).program (space_of mem.old).shared (uncopied (space_of mem.old).shared region 1) } }
     ensures spare { spare_of mem.new ≡ spare_of mem.old }
@@ -79,7 +77,6 @@ fn copy_region(mem: &mut Mem, region: u32)
     requires few { (space_of mem.old).layout.regions ≤ 65536 }
     requires above { 16 ≤ region }
     requires inside { region < all_regions (space_of mem.old).layout }
-    requires consistent { AreConsistent (space_of mem.old).layout (space_of mem.old).shared }
     requires room { slots_in_use (space_of mem.old).shared < (space_of mem.old).layout.regions }
     ensures space { space_of mem.new ≡ record (space_of mem.old) { shared = with_copy (space_of mem.old).layout (space_of mem.old).text (space_of mem.old).program (space_of mem.old).shared region } }
     ensures spare { spare_of mem.new ≡ spare_of mem.old }

@@ -1,15 +1,14 @@
 //! Bytes that are filled into copies.
 
 ghost use Rattle.std.specs.Prelude.{◌≡◌, ◌+◌, ◌-◌, ◌/◌, ◌%◌, ◌<◌, ◌≤◌, IsTrue, ℕ, get_or, length};
-ghost use Rattle.spec_base.specs.Layout.{is_lawful};
 ghost use Rattle.spec_base.specs.Word.{byte_of};
 ghost use Rattle.rv_model.specs.Memory.{all_from, patched, written};
 ghost use Rattle.rv_model.specs.Rights.{is_data};
-ghost use Rattle.code_model.specs.Regions.{copy_place, entry_of, set_in_copies, slot_address};
+ghost use Rattle.code_model.specs.Regions.{copy_place, entry_of, slot_address};
 ghost use Rattle.hart_mem.specs.Held.{space_of, spare_of};
 ghost use Rattle.code_model.specs.Tables.{AreConsistent, all_regions};
 ghost use Rattle.cow_regions.specs.Tables.{KeepsSlots};
-ghost use Rattle.cow_regions.specs.Fills.{filled_space, fitted, regions_fit};
+ghost use Rattle.cow_regions.specs.Fills.{HaveCopies, IsSet, ShadowedBut, SharesAlone, filled_space, fitted, regions_fit};
 
 use crate::copying::{count_new, make_copies};
 use crate::numbers::put;
@@ -28,22 +27,23 @@ pub enum Fitted {
 
 /// Fills bytes into the copies of their regions, of which those without a copy get one first. `Full`
 /// comes exactly where there would be more regions in use than the layout has, and then nothing
-/// changes.
+/// changes. Nothing but bytes of table, list and copies changes, and no frame is taken.
 pub fn fill_copies(mem: &mut Mem, address: u64, bytes: &[u8]) -> Fitted
-    requires lawful { IsTrue (is_lawful (space_of mem.old).layout) }
     requires some { 1 ≤ length bytes.now }
     requires inside { IsTrue (all_from (is_data (space_of mem.old).layout) address (length bytes.now)) }
-    requires consistent { AreConsistent (space_of mem.old).layout (space_of mem.old).shared }
     ensures answer { result ≡ fitted (regions_fit (space_of mem.old) address (length bytes.now - 1)) }
-    ensures done { result ≡ Fitted.Done → space_of mem.new ≡ filled_space (space_of mem.old) address bytes.now }
-    ensures full { result ≡ Fitted.Full → space_of mem.new ≡ space_of mem.old }
-    ensures consistent { AreConsistent (space_of mem.new).layout (space_of mem.new).shared }
-    ensures kept { KeepsSlots (space_of mem.old).layout (space_of mem.old).shared (space_of mem.new).shared }
+    ensures full { result ≡ Fitted.Full → mem.new ≡ mem.old }
+    ensures frame { SharesAlone (space_of mem.old) (space_of mem.new) }
+    ensures done { result ≡ Fitted.Done → AreConsistent (space_of mem.old).layout (space_of mem.old).shared → space_of mem.new ≡ filled_space (space_of mem.old) address bytes.now }
+    ensures shadowed { result ≡ Fitted.Done → AreConsistent (space_of mem.old).layout (space_of mem.old).shared → ShadowedBut (space_of mem.old) address bytes.now (space_of mem.new) }
+    ensures consistent { AreConsistent (space_of mem.old).layout (space_of mem.old).shared → AreConsistent (space_of mem.old).layout (space_of mem.new).shared }
+    ensures kept { AreConsistent (space_of mem.old).layout (space_of mem.old).shared → KeepsSlots (space_of mem.old).layout (space_of mem.old).shared (space_of mem.new).shared }
     ensures spare { spare_of mem.new ≡ spare_of mem.old }
 {
     let first = (address / COPY_BYTES) as u32;
     let end = ((address + (bytes.len() as u64 - 1)) / COPY_BYTES + 1) as u32;
-    if used(mem) + count_new(mem, first, end) > mem.layout().regions {
+    let wanted = used(mem) as u64 + count_new(mem, first, end) as u64;
+    if wanted > mem.layout().regions as u64 {
         return Fitted::Full;
     }
     make_copies(mem, first, end);
@@ -54,12 +54,10 @@ pub fn fill_copies(mem: &mut Mem, address: u64, bytes: &[u8]) -> Fitted
 /// Sets bytes in the copies of their regions.
 fn set_bytes(mem: &mut Mem, address: u64, bytes: &[u8])
     requires few { (space_of mem.old).layout.regions ≤ 65536 }
-    requires consistent { AreConsistent (space_of mem.old).layout (space_of mem.old).shared }
     requires inside { (address + length bytes.now - 1) / 256 < all_regions (space_of mem.old).layout }
-    requires copied { (a : ℕ) → address ≤ a → a < address + length bytes.now → 0 < entry_of (space_of mem.old).shared (a / 256) }
-    ensures space { space_of mem.new ≡ record (space_of mem.old) { shared = set_in_copies (space_of mem.old).shared address bytes.now } }
-    ensures consistent { AreConsistent (space_of mem.old).layout (space_of mem.new).shared }
-    ensures kept { KeepsSlots (space_of mem.old).layout (space_of mem.old).shared (space_of mem.new).shared }
+    ensures set { AreConsistent (space_of mem.old).layout (space_of mem.old).shared → HaveCopies (space_of mem.old).shared address (length bytes.now)
+        → IsSet (space_of mem.old) address bytes.now (space_of mem.new) }
+    ensures frame { SharesAlone (space_of mem.old) (space_of mem.new) }
     ensures spare { spare_of mem.new ≡ spare_of mem.old }
 {
     let mut done = 0;
@@ -73,17 +71,22 @@ fn set_bytes(mem: &mut Mem, address: u64, bytes: &[u8])
     }
 }
 
-/// Sets bytes of one region in its copy.
+/// Sets bytes of one region in its copy. An entry past the slots of the layout names none, and then
+/// nothing changes.
 fn set_piece(mem: &mut Mem, address: u64, bytes: &[u8])
-    requires consistent { AreConsistent (space_of mem.old).layout (space_of mem.old).shared }
     requires inside { address / 256 < all_regions (space_of mem.old).layout }
-    requires copied { 0 < entry_of (space_of mem.old).shared (address / 256) }
     requires fits { address % 256 + length bytes.now ≤ 256 }
-    ensures space { space_of mem.new ≡ record (space_of mem.old) { shared = written (space_of mem.old).shared (copy_place (entry_of (space_of mem.old).shared (address / 256)) address) bytes.now } }
+    ensures set { 0 < entry_of (space_of mem.old).shared (address / 256) → entry_of (space_of mem.old).shared (address / 256) ≤ (space_of mem.old).layout.regions
+        → space_of mem.new ≡ record (space_of mem.old) { shared = written (space_of mem.old).shared (copy_place (entry_of (space_of mem.old).shared (address / 256)) address) bytes.now } }
+    ensures frame { SharesAlone (space_of mem.old) (space_of mem.new) }
     ensures spare { spare_of mem.new ≡ spare_of mem.old }
 {
-    let slot = slot_of(mem, (address / COPY_BYTES) as u32).unwrap();
-    put_bytes(mem, slot - 1, address % COPY_BYTES, bytes);
+    let Some(slot) = slot_of(mem, (address / COPY_BYTES) as u32) else {
+        return;
+    };
+    if slot <= mem.layout().regions {
+        put_bytes(mem, slot - 1, address % COPY_BYTES, bytes);
+    }
 }
 
 /// Puts bytes at an offset of the copy in a slot, which is counted from 0.

@@ -4,7 +4,6 @@
 ghost use Rattle.std.specs.Prelude.{◌≡◌, ◌+◌, ◌≤◌, IfOk, IsTrue, length};
 ghost use Rattle.spec_base.specs.Layout.{is_lawful};
 ghost use Rattle.hart_mem.specs.Held.{space_of};
-ghost use Rattle.code_model.specs.Tables.{AreConsistent};
 
 use crate::{Fitted, Shadowed, emit_access, emit_clear, fill_copies, slot_of, used};
 use hart_mem::{Bytes, Mem};
@@ -217,8 +216,7 @@ fn small(regions: u32) -> Layout
 /// A memory whose bytes from 0x20_0FFF to 0x20_1102 are 5.
 fn made(alloc: Global, regions: u32) -> Result<Mem, NoMemory>
     requires { (1 ≤ regions) × (regions ≤ 2) }
-    ensures layout { IfOk result (λ mem. (space_of mem).layout ≡ record { text_start = 0x1_0000; text_end = 0x1_0010; regions = regions; version = Version.Two }) }
-    ensures consistent { IfOk result (λ mem. AreConsistent (space_of mem).layout (space_of mem).shared) }
+    ensures { IfOk result (λ mem. (space_of mem).layout ≡ record { text_start = 0x1_0000; text_end = 0x1_0010; regions = regions; version = Version.Two }) }
 {
     let text = vec![in alloc; 1, 2, 3, 4]?;
     let mut mem = Mem::new(alloc, small(regions), text)?;
@@ -233,18 +231,13 @@ fn filled(mem: &mut Mem, address: u64, bytes: &[u8]) -> Fitted
     requires above { (space_of mem.old).layout.text_end ≤ address }
     requires below { address + length bytes.now ≤ 0x4000_0000 }
     requires some { 1 ≤ length bytes.now }
-    requires consistent { AreConsistent (space_of mem.old).layout (space_of mem.old).shared }
-    ensures layout { (space_of mem.new).layout ≡ (space_of mem.old).layout }
-    ensures consistent { AreConsistent (space_of mem.new).layout (space_of mem.new).shared }
+    ensures { (space_of mem.new).layout ≡ (space_of mem.old).layout }
 {
     fill_copies(mem, address, bytes)
 }
 
 /// How many regions have copies, and the slots of two of them.
-fn slots(mem: &Mem) -> (u32, Option<u32>, Option<u32>)
-    requires version { (space_of mem.now).layout.version ≡ Version.Two }
-    requires consistent { AreConsistent (space_of mem.now).layout (space_of mem.now).shared }
-{
+fn slots(mem: &Mem) -> (u32, Option<u32>, Option<u32>) {
     (used(mem), slot_of(mem, 0x2010), slot_of(mem, 0x2011))
 }
 
@@ -261,9 +254,7 @@ fn bytes(data: &impl Bytes) -> [Option<u8>; 6] {
 }
 
 /// The same as a shadow sees them.
-fn seen(mem: &Mem) -> [Option<u8>; 6]
-    requires { AreConsistent (space_of mem.now).layout (space_of mem.now).shared }
-{
+fn seen(mem: &Mem) -> [Option<u8>; 6] {
     bytes(&Shadowed::new(mem))
 }
 

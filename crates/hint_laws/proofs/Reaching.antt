@@ -152,7 +152,7 @@ module _ (w : World) (a : Accepted w) (x : Answer) (r : Run) where
 
   -- one that touches no memory
   flowed : {s : ℕ} {m : Marks} {q : State} {program : Memory} {p : ℕ} {i : Instr} {g : Regs} {n target base : ℕ} {pt : Point} → Works w r s m q program (does p i g) n → IsQuiet w r → p ≡ q.pc → instr_at w.image q ≡ Some i → HasRegisters i
-      → FlowArrives p i g target pt.regs → next.shared ≡ r.shared → Arrives w a x r target base pt → IsTrue (before_use w next next.since.shadow) → Followed w next
+      → FlowArrives l p i g target pt.regs → next.shared ≡ r.shared → Arrives w a x r target base pt → IsTrue (before_use w next next.since.shadow) → Followed w next
   flowed {s} {m} {q} {program} {p} {i} {g} {n} {target} {base} {pt} v quiet pc word has arrives same at before =
       let seen : Memory = view_in r in
       let went : GoesOn (effect Plain no_rights seen (registers g) p i) target pt.regs = arrives.goes no_rights seen (registers g) (has-registers g) in

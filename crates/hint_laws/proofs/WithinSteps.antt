@@ -90,7 +90,7 @@ pub data Inner (l : Layout) (pc : ℕ) : Doing → Type 0 where
 
 -- the next block is reached: by an instruction that touches no memory, by a load, by a store, or behind a call
 pub data Comes (l : Layout) (bytes : ℕ → Option ℕ) (program old : Memory) (target : ℕ) (rs : Regs) (t : Tabs) (m : Memory) : Doing → Type 0 where
-  flows : {p : ℕ} {i : Instr} {q : Regs} → FlowArrives p i q target rs → m ≡ old → Comes l bytes program old target rs t m (does p i q)
+  flows : {p : ℕ} {i : Instr} {q : Regs} → FlowArrives l p i q target rs → m ≡ old → Comes l bytes program old target rs t m (does p i q)
   loads : {p : ℕ} {op : LoadOp} {rd rs1 : ℕ} {imm : ℤ} {q : Regs} → LoadArrives l p op rd rs1 imm q (known_from bytes (plus_int (get rs1 q) imm) (load_width op)) target rs → m ≡ old
       → Comes l bytes program old target rs t m (does p (Load op rd rs1 imm) q)
   stores : {p : ℕ} {op : StoreOp} {rs1 rs2 : ℕ} {imm : ℤ} {q : Regs} (t0 : Tabs) → StoreArrives l p op rs1 rs2 imm q bytes program t0 target rs t m → KeepsCopies l old m

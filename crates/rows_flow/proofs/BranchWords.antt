@@ -1,5 +1,5 @@
 -- Each word of a branch's block leads to its next row, to a block, or to a park.
-use Rattle.std.proofs.Common.{◌≡◌, ℕ, ◌+◌, ◌*◌, Bool, true, false, ℤ, pos, refl, ap, arith}
+use Rattle.std.proofs.Common.{◌≡◌, ℕ, ◌+◌, ◌*◌, Bool, true, false, ℤ, pos, refl, ◌∙◌, ap, sym, arith}
 use Rattle.spec_base.specs.Word.{plus_int}
 use Rattle.spec_base.specs.declared.layout.Layout.{Layout}
 use Rattle.spec_base.specs.declared.machine.View.TheVariants.{Plain}
@@ -8,6 +8,7 @@ use Rattle.rv_decode.specs.declared.instr.BranchOp.{BranchOp}
 use Rattle.rv_model.specs.Memory.{Memory}
 use Rattle.rv_model.specs.Registers.{Registers}
 use Rattle.rv_model.specs.Rights.{Rights}
+use Rattle.own_laws.proofs.Reached.{false_true}
 use Rattle.rv_model.specs.Effect.{Next, effect}
 use Rattle.code_model.specs.Blocks.{block, is_target, taken_word}
 use Rattle.code_model.specs.Places.{block_at}
@@ -21,7 +22,7 @@ use Rattle.side_model.proofs.JumpWords.{forks}
 use Rattle.rows_flow.specs.Following.{IsInstruction, GoesOn, GoesOut, Follows}
 use Rattle.rows_flow.specs.BranchRows.{taken, BranchRow, b1, b2, b3, BranchLeads, BranchStarts}
 use Rattle.rows_flow.proofs.Building.{same, onto_next, next_block, next_pc, by_diff}
-use Rattle.rows_flow.proofs.Targets.{jumps_whole, jumps_out, target_block, block_most, block_whole}
+use Rattle.rows_flow.proofs.Targets.{target-in_text, jumps_whole, jumps_out, target_block, block_most, block_whole}
 
 module _ (l : Layout) (p : ℕ) (op : BranchOp) (rs1 rs2 : ℕ) (imm : ℤ) (q : Regs) (program : Memory) (is : IsInstruction l p) where
   abbrev target : ℕ
@@ -50,15 +51,15 @@ module _ (l : Layout) (p : ℕ) (op : BranchOp) (rs1 rs2 : ℕ) (imm : ℤ) (q :
       → led t m 1 (exec (block_at l p) (taken_word b l p target) (record { place = InBlock 3; regs = q; priv = s; tabs = t }) m)
   takes s t m ok e true f =
       let b : HasBlock l target = target_block l p is target f in
-      arrives target (by_diff (block_at l target + 4) (block_at l p + 4 * 3) (omega (arith, block_most l p is target b.below)) (omega (arith, block_most l p is p (omega (arith, is.below))))) b (record { goes = taken-in e f }, same) ok
-  takes s t m ok e false f = parks (record { fault = refl; out = taken-out e f }, same) ok
+      arrives target (by_diff (block_at l target + 4) (block_at l p + 4 * 3) (omega (arith, block_most l p is target b.below)) (omega (arith, block_most l p is p (omega (arith, is.below))))) b (record { goes = taken-in e f; inside = λ j. target-in_text l target f }, same) ok
+  takes s t m ok e false f = parks (record { fault = refl; out = taken-out e f; other = λ j. false_true (sym j ∙ e) }, same) ok
 
   branch-words : {n : ℕ} {place : Place} {rs : Regs} {s : Priv} {t : Tabs} (m : Memory) → TableOk l t → BranchRow op rs1 rs2 q place rs s t n → leads n place rs s t m
   branch-words m ok (b1 s) = forks (taken op rs1 rs2 q) (λ e. leaps (InBlock 3) over (on (b3 s e, same) ok refl refl)) (λ e. on (b2 s e, same) ok refl refl)
     where
       over : plus_int (block_at l p + 4 * 1) (pos 8) ≡ block_at l p + 4 * 3
       over = omega (arith, block_most l p is p (omega (arith, is.below)))
-  branch-words m ok (b2 s e) = arrives (p + 4) (onto_next l p is 2 (omega arith)) (next_block l p is) (record { goes = not-taken e }, same) ok
+  branch-words m ok (b2 s e) = arrives (p + 4) (onto_next l p is 2 (omega arith)) (next_block l p is) (record { goes = not-taken e; inside = λ j. false_true (sym e ∙ j) }, same) ok
   branch-words m ok (b3 s {t} e) = takes s t m ok e (is_target l target) refl
 
 pub branch_leads : BranchLeads

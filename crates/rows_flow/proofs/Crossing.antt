@@ -68,7 +68,7 @@ module _ (w : World) (x : Answer) (p : ℕ) (i : Instr) (q : Regs) (base target 
   -- where the run lands, by the rows of the block at a base
   abbrev lands : ℕ → (Place → Regs → Priv → Tabs → ℕ → Type 0) → Shade → Type 0
   lands at rows h =
-      Landed l at (λ place rs s' t' m' k. rows place rs s' t' k × Unchanged s.tabs r.shared t' m') (λ to rs t' m'. FlowArrives p i q to rs × Unchanged s.tabs r.shared t' m')
+      Landed l at (λ place rs s' t' m' k. rows place rs s' t' k × Unchanged s.tabs r.shared t' m') (λ to rs t' m'. FlowArrives l p i q to rs × Unchanged s.tabs r.shared t' m')
       (λ cause t' m'. FlowFaults l p i q cause × Unchanged s.tabs r.shared t' m') n h
 
   -- in this block, or at the pad of the target's

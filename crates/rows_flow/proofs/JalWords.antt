@@ -8,6 +8,7 @@ use Rattle.rv_decode.specs.declared.instr.Instr.TheVariants.{Jal}
 use Rattle.rv_model.specs.Memory.{Memory}
 use Rattle.rv_model.specs.Registers.{Registers, with_reg}
 use Rattle.rv_model.specs.Rights.{Rights}
+use Rattle.own_laws.proofs.Reached.{false_true}
 use Rattle.rv_model.specs.Effect.{after, effect, even, jumps_to}
 use Rattle.code_model.specs.Assembly.{ld, lo, X31}
 use Rattle.code_model.specs.Blocks.{is_target, jal_if, with_pad}
@@ -24,7 +25,7 @@ use Rattle.side_model.proofs.Registers.{HasRegs-put}
 use Rattle.rows_flow.specs.Following.{IsInstruction, GoesOn, GoesOut, Follows}
 use Rattle.rows_flow.specs.JalRows.{linked, JalRow, k1, k2, k3, k4, k5, PadRow, pad, Crosses, stays, crosses, JalLeads, PadLeads, JalStarts}
 use Rattle.rows_flow.proofs.Building.{same, next_pc, built}
-use Rattle.rows_flow.proofs.Targets.{jumps_whole, jumps_out, target_block, block_most, block_whole}
+use Rattle.rows_flow.proofs.Targets.{target-in_text, jumps_whole, jumps_out, target_block, block_most, block_whole}
 
 module _ (l : Layout) (p rd : ℕ) (imm : ℤ) (q : Regs) (program : Memory) (is : IsInstruction l p) where
   abbrev target : ℕ
@@ -55,7 +56,7 @@ module _ (l : Layout) (p rd : ℕ) (imm : ℤ) (q : Regs) (program : Memory) (is
   -- word 1
   first : (s : Priv) (t : Tabs) (m : Memory) → TableOk l t → (b : Bool) → is_target l target ≡ b → leads b 6 (InBlock 1) q s t m
   first s t m ok true e = stays (on (k2 s e, same) ok refl refl)
-  first s t m ok false e = stays (parks (record { fault = refl; out = goes-out e }, same) ok)
+  first s t m ok false e = stays (parks (record { fault = refl; out = goes-out e; other = λ j. false_true (sym j) }, same) ok)
 
   -- word 5 jumps to the target's block
   onto : is_target l target ≡ true → even (plus_int (high_part (block_at l target)) (lo (block_at l target))) ≡ block_at l target
@@ -79,7 +80,7 @@ module _ (l : Layout) (p rd : ℕ) (imm : ℤ) (q : Regs) (program : Memory) (is
   -- the pad of the target's block
   pad-words : (words : List Instr) → slice_get words 0 ≡ Some (ld 31 X31 0) → {n : ℕ} {place : Place} {rs : Regs} {s : Priv} {t : Tabs} (m : Memory) → TableOk l t → PadRow l p rd target q place rs s t n
       → Follows l program p (Jal rd imm) q (block_at l target) (PadRow l p rd target q) t m n (exec_some (block_at l target) (code l words place) (record { place = place; regs = rs; priv = s; tabs = t }) m)
-  pad-words words w m ok (pad s e) = rw w (arrives target refl (target_block l p is target e) (record { goes = goes-in e }, same) ok)
+  pad-words words w m ok (pad s e) = rw w (arrives target refl (target_block l p is target e) (record { goes = goes-in e; inside = λ j. target-in_text l target e }, same) ok)
 
 pub jal_leads : JalLeads
 jal_leads l p rd imm q program is n place rs s t m ok row = jal-words l p rd imm q program is m ok row

@@ -9,6 +9,7 @@ use Rattle.rv_decode.specs.declared.instr.Instr.TheVariants.{Jalr}
 use Rattle.rv_model.specs.Memory.{Memory}
 use Rattle.rv_model.specs.Registers.{Registers, with_reg}
 use Rattle.rv_model.specs.Rights.{Rights}
+use Rattle.own_laws.proofs.Reached.{false_true}
 use Rattle.rv_model.specs.Effect.{after, effect, jumps_to}
 use Rattle.code_model.specs.Assembly.{lo}
 use Rattle.code_model.specs.Blocks.{block, link_spill}
@@ -26,7 +27,7 @@ use Rattle.side_model.proofs.Registers.{HasRegs-put}
 use Rattle.rows_flow.specs.Following.{IsInstruction, GoesOn, FlowArrives, FlowFaults, Follows}
 use Rattle.rows_flow.specs.JalrRows.{asked, JalrRow, r1, r2, r3, r4, r5, r6, r7, r8, JalrsRow, JalrLeads, JumpFollows, JalrStarts}
 use Rattle.rows_flow.proofs.Building.{same, next_pc, built}
-use Rattle.rows_flow.proofs.Targets.{jumps_whole, jumps_out, block_whole}
+use Rattle.rows_flow.proofs.Targets.{target-in_text, jumps_whole, jumps_out, block_whole}
 
 -- ---- JUMP leaves the tables and the memory
 
@@ -109,14 +110,14 @@ module _ (l : Layout) (p rd rs1 : ℕ) (imm : ℤ) (q : Regs) (program : Memory)
       (subst (λ (v : ℕ). GoesOn (jumps_to (with_reg was rd v) (goal l at linked)) (goal l at linked) linked) (sym (next_pc l p is))
       (jumps_whole (goal l at linked) (with_reg was rd (p + 4)) linked (HasRegs-put was q rd (p + 4) h) (block_whole l p is (goal l at linked) b)))
 
-  arrived : (target : ℕ) (rs : Regs) (t : Tabs) (m : Memory) → HasBlock l target → JumpArrives l at linked target rs t m → FlowArrives p (Jalr rd rs1 imm) q target rs
+  arrived : (target : ℕ) (rs : Regs) (t : Tabs) (m : Memory) → HasBlock l target → JumpArrives l at linked target rs t m → FlowArrives l p (Jalr rd rs1 imm) q target rs
   arrived target rs t m b a =
-      subst (λ (r : Regs). FlowArrives p (Jalr rd rs1 imm) q target r) (sym a.registers)
-      (subst (λ (g : ℕ). FlowArrives p (Jalr rd rs1 imm) q g linked) (sym a.target) (record { goes = goes-in (subst (HasBlock l) a.target b) }))
+      subst (λ (r : Regs). FlowArrives l p (Jalr rd rs1 imm) q target r) (sym a.registers)
+      (subst (λ (g : ℕ). FlowArrives l p (Jalr rd rs1 imm) q g linked) (sym a.target) (record { goes = goes-in (subst (HasBlock l) a.target b); inside = λ j. target-in_text l (goal l at linked) a.inside }))
 
   -- or to one that isn't in the text
   faulted : (cause : Park) (t : Tabs) (m : Memory) → JumpFaults l at linked cause t m → FlowFaults l p (Jalr rd rs1 imm) q cause
-  faulted cause t m f = record { fault = f.fault; out = λ rights memory was h. rw (h.at rs1) (jumps_out l (goal l at linked) (with_reg was rd (after p)) f.trap) }
+  faulted cause t m f = record { fault = f.fault; out = λ rights memory was h. rw (h.at rs1) (jumps_out l (goal l at linked) (with_reg was rd (after p)) f.trap); other = λ j. false_true (sym j) }
 
   abbrev jump_led : ℕ → ℕ → Out → Type 0
   jump_led base n o = Led l program base (λ place rs s t m k. JumpRow l at linked place rs s t k) (JumpArrives l at linked) (JumpFaults l at linked) n o

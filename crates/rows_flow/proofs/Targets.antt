@@ -1,9 +1,11 @@
 -- Where a jump goes: to a block where its target is in the text, and else out of the text.
 use Rattle.std.proofs.Common.{◌≡◌, ℕ, ◌%◌, ◌≤◌, Bool, true, false, ◌==◌, refl, ap, arith, eq-eqb}
+use Rattle.std.proofs.lemmas.Bool.{and_parts}
 use Rattle.std.proofs.lemmas.Bool.Decides.{nat_tests}
 use Rattle.spec_base.specs.declared.layout.Layout.{Layout}
 use Rattle.spec_base.specs.declared.machine.Trap.TheVariants as trap
 use Rattle.rv_model.specs.Registers.{Registers}
+use Rattle.rv_model.specs.Rights.{in_text}
 use Rattle.rv_model.specs.Effect.{jump_if, jumps_to}
 use Rattle.code_model.specs.Blocks.{is_target}
 use Rattle.code_model.specs.Places.{block_at}
@@ -24,6 +26,10 @@ jumps_out l target rs e = by_test (target % 4 == 0) refl
     by_test : (b : Bool) → (target % 4 == 0) ≡ b → GoesOut l (jump_if b rs target)
     by_test true z = leaves rs target (grind (arith, nat_tests))
     by_test false z = traps trap.Misaligned
+
+-- a target is in the text
+pub target-in_text : (l : Layout) (target : ℕ) → is_target l target ≡ true → in_text l target ≡ true
+target-in_text l target e = (and_parts (in_text l target) (target % 4 == 0) e).0
 
 -- ---- blocks
 

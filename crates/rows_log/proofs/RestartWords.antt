@@ -23,7 +23,7 @@ use Rattle.side_model.specs.Words.{Point, Out, Goes, Loads, Stores, Keys, Calls,
 use Rattle.side_model.specs.Rows.{Led, on, leaps, arrives, takes_count, takes_listed, takes_link, puts_entry, puts_count, calls, parks}
 use Rattle.side_model.specs.JumpRows.{JumpRow, j1, j2, j3, j4, j5, j6, j7, j8, j9, j10, j11, j12, j13, j14, j15, j16, lands, faults, JumpArrives, JumpFaults, JumpFits}
 use Rattle.side_model.proofs.Registers.{HasRegs-put, get_put}
-use Rattle.side_model.proofs.Numbers.{TextFits, text-fits}
+use Rattle.side_model.proofs.Numbers.{TextFits, text-fits, target-inside}
 use Rattle.side_model.proofs.Tabling.{all_regions-most}
 use Rattle.side_model.proofs.JumpWords.{forks, jump_leads}
 use Rattle.rows_log.specs.Queue.{LeavesLink}
@@ -305,7 +305,7 @@ module _ (l : Layout) (site : ℕ) (q : Regs) (base : ℕ) (words : List Instr) 
 
   abbrev goes : ℕ → Place → Regs → Priv → Tabs → Memory → Type 0
   goes n place rs s t m =
-      Led l program base (restarted t m) (RestartArrives site q t m) (RestartFaults l site t m) n
+      Led l program base (restarted t m) (RestartArrives l site q t m) (RestartFaults l site t m) n
       (exec_some base (code l words place) (record { place = place; regs = rs; priv = s; tabs = t }) m)
 
   fitting : TextFits l
@@ -355,12 +355,16 @@ module _ (l : Layout) (site : ℕ) (q : Regs) (base : ℕ) (words : List Instr) 
           both x y = grind (arith, nat_tests)
       by_order false h = let k : l.text_end ≤ site + 4 = grind (arith, nat_tests) in omega (arith, k, is.below, is.whole, fitting.end)
 
+  -- and where it is one, the text goes on
+  before-end : is_target l (even (site + 4)) ≡ true → (target : ℕ) → target ≡ site + 4 → target < l.text_end
+  before-end e target at = let f : is_target l (site + 4) ≡ true = ap (is_target l) (sym behind-site) ∙ e in omega (arith, at, (target-inside l (site + 4) f).below)
+
   -- each word of JUMP
   jumps : {n : ℕ} {place : Place} {rs : Regs} {s : Priv} {t : Tabs} (m : Memory) → TableOk l t → JumpRow l (site + 4) q place rs s t n → goes n place rs s t m
   jumps {n} {place} {rs} {s} {t} m ok row =
-      led-quiet l program base (λ place rs s t' m' k. JumpRow l (site + 4) q place rs s t' k) (restarted t m) (JumpArrives l (site + 4) q) (RestartArrives site q t m) (JumpFaults l (site + 4) q) (RestartFaults l site t m) n t m
+      led-quiet l program base (λ place rs s t' m' k. JumpRow l (site + 4) q place rs s t' k) (restarted t m) (JumpArrives l (site + 4) q) (RestartArrives l site q t m) (JumpFaults l (site + 4) q) (RestartFaults l site t m) n t m
       (λ place rs s t' m' k r same. (inr r, same))
-      (λ p rs t' m' a same. record { behind = a.target ∙ behind-site; registers = a.registers; same = same })
+      (λ p rs t' m' a same. record { behind = a.target ∙ behind-site; inside = before-end a.inside p (a.target ∙ behind-site); registers = a.registers; same = same })
       (λ cause t' m' a same. record { fault = a.fault; last = text-ends a.trap; same = same })
       _ (jump-quiet m row) (jump_leads l (site + 4) q base words program fits n place rs s t m ok row)
 

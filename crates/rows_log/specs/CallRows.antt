@@ -138,16 +138,29 @@ pub data KeyStep (key : ℕ) : Place → Place → ℕ → Type 0 where
   keeps_key : {from place : Place} → (before_key from && not (before_key place)) ≡ false → KeyStep key from place key
   finds_key : (found : ℕ) → found < 2 ^ 64 → KeyStep key (InHelper Appending 2) (InHelper Appending 3) found
 
--- from a word at this place, with this key, these tables and this memory: to the next row, with the tables as they are; or, by the HCALL, to the word behind it, with an answer in x10 and whatever the call leaves
-pub data CallNext (l : Layout) (p : ℕ) (q : Regs) (tail key : ℕ) (from : Place) (t : Tabs) (m : Memory) : Place → Regs → Priv → Tabs → Memory → ℕ → Type 0 where
-  word : {place : Place} {rs : Regs} {s : Priv} {m' : Memory} {k : ℕ} (found : ℕ) (stage : Stage) → CallRow l p q tail found place rs s stage k → AtStage tail (get 12 q) stage m'
-      → KeyStep key from place found → LogStep (get 12 q) from m m' → CallNext l p q tail key from t m place rs s t m' k
-  call : {s : Priv} {t' : Tabs} {m' : Memory} (answer : ℕ) → from ≡ InBlock 6 → answer < 2 ^ 64 → CallNext l p q tail key from t m (InBlock 7) (put 10 answer q) s t' m' 1
+-- only word 9 of APPEND finds a head, which is the log's
+abbrev pub is_headed : Stage → Bool
+is_headed (Headed head) = true
+is_headed _ = false
 
--- it parks at LOGFULL only where the log had 64 pairs as its head was loaded
-pub record LogIsFull (t : Tabs) (m : Memory) (cause : Park) (t' : Tabs) (m' : Memory) : Type 0 where
+pub data HeadStep (m : Memory) : Stage → Stage → Type 0 where
+  finds_head : HeadStep m Before (Headed (log_head m))
+  keeps_head : (head : ℕ) → HeadStep m (Headed head) (Headed head)
+  no_head : {from to : Stage} → is_headed to ≡ false → HeadStep m from to
+
+-- from a word at this place, with this key, this stage, these tables and this memory: to the next row, with the tables as they are; or, by the HCALL, to the word behind it, with an answer in x10 and whatever the call leaves
+pub data CallNext (l : Layout) (p : ℕ) (q : Regs) (tail key : ℕ) (from : Place) (at : Stage) (t : Tabs) (m : Memory) : Place → Regs → Priv → Tabs → Memory → ℕ → Type 0 where
+  word : {place : Place} {rs : Regs} {s : Priv} {m' : Memory} {k : ℕ} (found : ℕ) (stage : Stage) → CallRow l p q tail found place rs s stage k → AtStage tail (get 12 q) stage m'
+      → KeyStep key from place found → HeadStep m at stage → LogStep (get 12 q) from m m' → CallNext l p q tail key from at t m place rs s t m' k
+  call : {s : Priv} {t' : Tabs} {m' : Memory} (answer : ℕ) → from ≡ InBlock 6 → answer < 2 ^ 64 → CallNext l p q tail key from at t m (InBlock 7) (put 10 answer q) s t' m' 1
+
+-- it parks at LOGFULL only where the call has a key and the log had 64 pairs as its head was loaded
+pub record LogIsFull (key : ℕ) (from : Place) (at : Stage) (t : Tabs) (m : Memory) (cause : Park) (t' : Tabs) (m' : Memory) : Type 0 where
   pub parks : cause ≡ park.LogFull
+  pub late : before_key from ≡ false
+  pub keyed : (key == 0) ≡ false
   pub head : ℕ
+  pub loaded : at ≡ Headed head
   pub loaded_before : head ≤ log_head m'
   pub full : log_tail m' ≡ head + 64
   pub tables : t' ≡ t
@@ -174,7 +187,7 @@ CallLeads =
     (l : Layout) (p : ℕ) (q : Regs) (tail key : ℕ) (program : Memory) → IsSite l p → key < 2 ^ 64 → get 12 q < 2 ^ 64
     → (n : ℕ) (place : Place) (rs : Regs) (s : Priv) (stage : Stage) (t : Tabs) (m : Memory) → TableOk l t → log_tail m < 2 ^ 64 - 1
     → CallRow l p q tail key place rs s stage n → AtStage tail (get 12 q) stage m
-    → Led l program (block_at l p) (CallNext l p q tail key place t m) (λ target rs t' m'. ⊥) (LogIsFull t m) n
+    → Led l program (block_at l p) (CallNext l p q tail key place stage t m) (λ target rs t' m'. ⊥) (LogIsFull key place stage t m) n
     (exec_some (block_at l p) (code l (block l p Ecall) place) (record { place = place; regs = rs; priv = s; tabs = t }) m)
 
 -- between two words pairs may be taken

@@ -126,8 +126,9 @@ pub record Same (t : Tabs) (m : Memory) (t' : Tabs) (m' : Memory) : Type 0 where
   pub memory : m' ≡ m
 
 -- the shadow arrives behind the site, with the registers from the box and the answer
-pub record RestartArrives (site : ℕ) (q : Regs) (t : Tabs) (m : Memory) (target : ℕ) (rs : Regs) (t' : Tabs) (m' : Memory) : Type 0 where
+pub record RestartArrives (l : Layout) (site : ℕ) (q : Regs) (t : Tabs) (m : Memory) (target : ℕ) (rs : Regs) (t' : Tabs) (m' : Memory) : Type 0 where
   pub behind : target ≡ site + 4
+  pub inside : target < l.text_end
   pub registers : rs ≡ q
   pub same : Same t m t' m'
 
@@ -160,5 +161,5 @@ abbrev pub RestartedLeads : Type 0
 RestartedLeads =
     (l : Layout) (site : ℕ) (q : Regs) (base : ℕ) (words : List Instr) (program : Memory) → IsSite l site → JumpFits l (site + 4) q base words
     → (n : ℕ) (place : Place) (rs : Regs) (s : Priv) (t : Tabs) (m : Memory) → TableOk l t → RestartedRow l site q place rs s t n
-    → Led l program base (λ place rs s t' m' k. RestartedRow l site q place rs s t' k × Same t m t' m') (RestartArrives site q t m) (RestartFaults l site t m) n
+    → Led l program base (λ place rs s t' m' k. RestartedRow l site q place rs s t' k × Same t m t' m') (RestartArrives l site q t m) (RestartFaults l site t m) n
     (exec_some base (code l words place) (record { place = place; regs = rs; priv = s; tabs = t }) m)

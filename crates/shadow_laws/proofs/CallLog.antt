@@ -303,7 +303,7 @@ module _ (w : World) (a : Accepted w) (p : ℕ) (is : IsSite w.image.layout p) (
         from : Place
         from = at.point.place
 
-        led : Led l program base (CallNext l p q tail at.row.key from at.point.tabs y.shared) (λ target rs t m. ⊥) (LogIsFull at.point.tabs y.shared) n (exec_some base (code l words from) at.point y.shared)
+        led : Led l program base (CallNext l p q tail at.row.key from at.row.stage at.point.tabs y.shared) (λ target rs t m. ⊥) (LogIsFull at.row.key from at.row.stage at.point.tabs y.shared) n (exec_some base (code l words from) at.point y.shared)
         led = call_leads l p q tail at.row.key program is at.row.small count_small n from at.point.regs at.point.priv at.row.stage at.point.tabs y.shared at.ok small at.row.row at.row.log
 
         -- HKEY finds the planned call's key
@@ -316,11 +316,11 @@ module _ (w : World) (a : Accepted w) (p : ℕ) (is : IsSite w.image.layout p) (
             let fetch : Fetches w (address base from) (Hkey 31) = code-fetches w base words from (Hkey 31) at.code word in
             sym (shown.at 31 ∙ x31) ∙ step-key w x y at.shown.running (ap (fetch_shadow w) at.shown.pc ∙ fetch.word) ∙ planned y alike at.point.regs args at.shown.regs.at
 
-        leads-on : (i : Instr) → code l words from ≡ Some i → (s : Point) (k : ℕ) → k < n → CallNext l p q tail at.row.key from at.point.tabs y.shared s.place s.regs s.priv s.tabs after.shared k
+        leads-on : (i : Instr) → code l words from ≡ Some i → (s : Point) (k : ℕ) → k < n → CallNext l p q tail at.row.key from at.row.stage at.point.tabs y.shared s.place s.regs s.priv s.tabs after.shared k
             → Sees l base (shade_of after) s after.shared → TableOk l s.tabs → (y.shadow.files ≡ files) ⊎ (n ≤ 1) → Led_to y after
-        leads-on i e s k less (word found stage row log by change) v ok (inr few) = absurd (omega (arith, less, few, (row-facts row).0))
+        leads-on i e s k less (word found stage row log by head change) v ok (inr few) = absurd (omega (arith, less, few, (row-facts row).0))
         leads-on i e s k less (call answer six small_answer) v ok f = tracks (behind 1 (next w a x y z at s v ok (record { answer = answer; here = refl; registers = refl; one = refl })))
-        leads-on i e s k less (word found stage row log by change) v ok (inl alike) = by_call (row-facts at.row.row).1
+        leads-on i e s k less (word found stage row log by head change) v ok (inl alike) = by_call (row-facts at.row.row).1
           where
             here : At w base words Tracked (shade_of after) k
             here =
@@ -337,15 +337,15 @@ module _ (w : World) (a : Accepted w) (p : ℕ) (is : IsSite w.image.layout p) (
             by_call (inr other) =
                 tracks (in_call k here (step-files w x y i at.shown.running (ap (fetch_shadow w) at.shown.pc ∙ fetch.word) (ap is_call_word (sym e) ∙ other) ∙ alike))
 
-        by_landing : (i : Instr) → code l words from ≡ Some i → Landed l base (CallNext l p q tail at.row.key from at.point.tabs y.shared) (λ target rs t m. ⊥) (LogIsFull at.point.tabs y.shared) n (shade_of after) → Led_to y after
+        by_landing : (i : Instr) → code l words from ≡ Some i → Landed l base (CallNext l p q tail at.row.key from at.row.stage at.point.tabs y.shared) (λ target rs t m. ⊥) (LogIsFull at.row.key from at.row.stage at.point.tabs y.shared) n (shade_of after) → Led_to y after
         by_landing i e (goes_on k s m row ok less inner v) =
-            leads-on i e s k less (subst (λ m. CallNext l p q tail at.row.key from at.point.tabs y.shared s.place s.regs s.priv s.tabs m k) (sym v.shared) row)
+            leads-on i e s k less (subst (λ m. CallNext l p q tail at.row.key from at.row.stage at.point.tabs y.shared s.place s.regs s.priv s.tabs m k) (sym v.shared) row)
             (record { pc = v.pc; regs = v.regs; priv = v.priv; tabs = v.tabs; shared = refl; running = v.running }) ok known_files
         by_landing i e (arrived to s m none ok b f v) = absurd none
         by_landing i e (parked cause t m why ok has state) = parks state
 
         by_code : (o : Option Instr) → code l words from ≡ o
-            → Led l program base (CallNext l p q tail at.row.key from at.point.tabs y.shared) (λ target rs t m. ⊥) (LogIsFull at.point.tabs y.shared) n (exec_some base o at.point y.shared) → Led_to y after
+            → Led l program base (CallNext l p q tail at.row.key from at.row.stage at.point.tabs y.shared) (λ target rs t m. ⊥) (LogIsFull at.row.key from at.row.stage at.point.tabs y.shared) n (exec_some base o at.point y.shared) → Led_to y after
         by_code None e d = elim d [ ]
         by_code (Some i) e d = by_landing i e (landed w a x y z at led)
 

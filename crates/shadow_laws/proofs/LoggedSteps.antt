@@ -55,15 +55,15 @@ key-small h (keeps_key same) = h
 key-small h (finds_key found small) = small
 
 -- the next row
-next-row : {l : Layout} {p : ℕ} {q : Regs} {tail key : ℕ} {from place : Place} {rs : Regs} {s : Priv} {t t' : Tabs} {m m' : Memory} {k : ℕ} → key < 2 ^ 64 → get 12 q < 2 ^ 64
-    → CallNext l p q tail key from t m place rs s t' m' k → LoggedRow l p q place rs s m' k
-next-row {tail = tail} small count (word found stage row a step log) = in_call tail found stage row a (key-small small step) count
+next-row : {l : Layout} {p : ℕ} {q : Regs} {tail key : ℕ} {from place : Place} {rs : Regs} {s : Priv} {t t' : Tabs} {m m' : Memory} {k : ℕ} {at : Stage} → key < 2 ^ 64 → get 12 q < 2 ^ 64
+    → CallNext l p q tail key from at t m place rs s t' m' k → LoggedRow l p q place rs s m' k
+next-row {tail = tail} small count (word found stage row a step head log) = in_call tail found stage row a (key-small small step) count
 next-row small count (call answer from h) = behind answer refl refl refl
 
 -- what it does to the log, unless it is the HCALL
-log-step : {l : Layout} {p : ℕ} {q : Regs} {tail key : ℕ} {from place : Place} {rs : Regs} {s : Priv} {t t' : Tabs} {m m' : Memory} {k : ℕ}
-    → CallNext l p q tail key from t m place rs s t' m' k → LogStep (get 12 q) from m m' ⊎ (from ≡ InBlock 6)
-log-step (word found stage row a step log) = inl log
+log-step : {l : Layout} {p : ℕ} {q : Regs} {tail key : ℕ} {from place : Place} {rs : Regs} {s : Priv} {t t' : Tabs} {m m' : Memory} {k : ℕ} {at : Stage}
+    → CallNext l p q tail key from at t m place rs s t' m' k → LogStep (get 12 q) from m m' ⊎ (from ≡ InBlock 6)
+log-step (word found stage row a step head log) = inl log
 log-step (call answer from h) = inr from
 
 -- ---- what a word does to the log
@@ -114,7 +114,7 @@ module _ (w : World) (a : Accepted w) (x : Answer) (r : Run) (z : Sized (stock_o
   module _ {n : ℕ} (p : ℕ) (q : Regs) (is : IsSite l p) (at : At w (block_at l p) (block l p Ecall) (logged_calls w p q) (shade_of r) n) where
     -- a word up to the HCALL
     call-led : (tail key : ℕ) (stage : Stage) → CallRow l p q tail key at.point.place at.point.regs at.point.priv stage n → AtStage tail (get 12 q) stage r.shared → key < 2 ^ 64 → get 12 q < 2 ^ 64
-        → Led l program (block_at l p) (CallNext l p q tail key at.point.place at.point.tabs r.shared) (λ target rs t m. ⊥) (LogIsFull at.point.tabs r.shared) n
+        → Led l program (block_at l p) (CallNext l p q tail key at.point.place stage at.point.tabs r.shared) (λ target rs t m. ⊥) (LogIsFull key at.point.place stage at.point.tabs r.shared) n
         (exec_some (block_at l p) (code l (block l p Ecall) at.point.place) at.point r.shared)
     call-led tail key stage row b key_small count =
         call_leads l p q tail key program is key_small count n at.point.place at.point.regs at.point.priv stage at.point.tabs r.shared at.ok small row b

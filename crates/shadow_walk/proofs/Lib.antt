@@ -8,3 +8,6 @@ pub mod WalkWords
 pub mod Strides
 pub mod Onward
 pub mod Behind
+pub mod BackRows
+pub mod CallsPerformed
+pub mod LogWords

@@ -22,7 +22,8 @@ use Rattle.hart_mem.specs.Held.{Held, lacks_frame}
 use Rattle.hart_step.specs.Core.{Core}
 use Rattle.hart_step.specs.Step.{Outcome, stepped, store_outcome, gate_outcome, gone_on, effect_here}
 use Rattle.hart_step.specs.declared.event.Event.TheVariants as event
-use Rattle.shadow_walk.specs.Shows.{ShowsIn, ShowsShadow, AtKey, MovesBy}
+use Rattle.word_laws.specs.Shown.{ShowsIn, ShowsShadow}
+use Rattle.shadow_walk.specs.Shows.{AtKey, MovesBy}
 use Rattle.shadow_walk.proofs.Effects.{gate_word}
 
 -- an arrival, and the count of words, show nothing else

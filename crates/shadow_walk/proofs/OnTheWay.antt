@@ -45,7 +45,7 @@ unmarked (suc n) k marked e = by_test (k == suc n)
     by_test false = refl
 
 -- a call marks no register
-call-unmarked : (filled : Bool) (act : Action) (k : ℕ) → (marks_after_call filled no_marks act).registers k ≡ false
+pub call-unmarked : (filled : Bool) (act : Action) (k : ℕ) → (marks_after_call filled no_marks act).registers k ≡ false
 call-unmarked filled (Reads spot a) k = unmarked 10 k false refl
 call-unmarked filled (Loads a width) k = unmarked 10 k false refl
 call-unmarked filled (Stores a width) k = unmarked 10 k false refl

@@ -46,14 +46,15 @@ use Rattle.hart_step.specs.Core.{Core}
 use Rattle.hart_step.specs.Step.{Outcome}
 use Rattle.hart_step.specs.declared.event.Event.{Event}
 use Rattle.hart_step.specs.declared.event.Event.TheVariants as event
-use Rattle.shadow_walk.specs.Shows.{ShowsIn, ShowsShadow, AtKey, AtCall, MovesBy}
-use Rattle.shadow_walk.specs.Walks.{words_on}
+use Rattle.word_laws.specs.Shown.{ShowsIn, ShowsShadow}
+use Rattle.shadow_walk.specs.Shows.{AtKey, AtCall, MovesBy}
+use Rattle.shadow_walk.specs.Walks.{NoneArrives, words_on}
 use Rattle.shadow_walk.specs.Restarts as again
 use Rattle.shadow_walk.specs.Restarts.{StandsAnew, IsUnboxed, LeavesOwn, Restarts}
 use Rattle.shadow_walk.specs.declared.walking.Walked.TheVariants as walked
 use Rattle.shadow_walk.proofs.Told.{Tells, tells}
 use Rattle.shadow_walk.proofs.WalkRows.{within-some, AsksIn, Unboxes, within-asks, within-completes}
-use Rattle.shadow_walk.proofs.Strides.{Stepped, IsStray}
+use Rattle.shadow_walk.proofs.Strides.{none-yet, none-more, Stepped, IsStray}
 
 -- ---- on the way
 
@@ -113,6 +114,7 @@ pub record Passing (w : World) (x : ℕ → Answer) (r : Run) (f : Doing) (most 
   pub kept : LeavesOwn r run
   pub shared : SharedAs f run.shared r.shared
   pub few : words + left ≤ suc most
+  pub none : NoneArrives w x r words
 
 -- the words are counted from 1, and those that are left come to no more than all
 pub words-some : {w : World} {x : ℕ → Answer} {r : Run} {f : Doing} {most words : ℕ} {c : Core} {s : Space} → Passing w x r f most words c s → 0 < words
@@ -172,13 +174,13 @@ turns-call (asks_again answer rs t word has loaded tabs fresh to answers) = ap i
 -- behind a word the shadow is on its way still, or at a block
 pub data Passed (w : World) (x : ℕ → Answer) (r : Run) (f : Doing) (most words : ℕ) (d : Core) (t : Space) : Type 0 where
   goes_on : is_arrival w.image.layout d.pc ≡ false → Passing w x r f most (words + 1) d t → Passed w x r f most words d t
-  comes : is_arrival w.image.layout d.pc ≡ true → words ≤ most → ShowsShadow w (words_on w x r words) d t → ComesTo w (words_on w x r words) f → LeavesOwn r (words_on w x r words) → SharedAs f (words_on w x r words).shared r.shared
+  comes : is_arrival w.image.layout d.pc ≡ true → words ≤ most → NoneArrives w x r words → ShowsShadow w (words_on w x r words) d t → ComesTo w (words_on w x r words) f → LeavesOwn r (words_on w x r words) → SharedAs f (words_on w x r words).shared r.shared
       → Passed w x r f most words d t
 
 -- on the way it is where the test of the pc says so
 pub passes_on : {w : World} {x : ℕ → Answer} {r : Run} {f : Doing} {most words : ℕ} {d : Core} {t : Space} → Passed w x r f most words d t → is_arrival w.image.layout d.pc ≡ false → Passing w x r f most (words + 1) d t
 passes_on (goes_on between k) e = k
-passes_on (comes there most shows at kept shared) e = false_true (sym e ∙ there)
+passes_on (comes there most none shows at kept shared) e = false_true (sym e ∙ there)
 
 module _ (w : World) (a : Accepted w) {x : ℕ → Answer} {r : Run} {f : Doing} {most words : ℕ} {h : Held} {c : Core} {s : Space} {e : Event} {d : Core} {t : Space} (step : Stepped h c s e d t) (k : Passing w x r f most words c s) where
   abbrev l : Layout
@@ -267,10 +269,11 @@ module _ (w : World) (a : Accepted w) {x : ℕ → Answer} {r : Run} {f : Doing}
             kept = kept-next quiet;
             shared = shared-next f next.shared y.shared r.shared (shared-left leaves) k.shared;
             few = omega (arith, k.few, less);
+            none = none-more w x r words k.none (λ some. ap (λ (r : Run). is_arrival l r.shadow.pc) (sym made-words) ∙ inner-arrival w a (within-whole within) place);
           })
       by_leads (turns j less to new turn within place) = false_true (sym quiet ∙ turns-call turn)
       by_leads (reaches p base pt block place ok shown arrival is) =
-          comes (ap (is_arrival l) (shows.pc ∙ shown.pc ∙ place) ∙ block-arrives w a p block) (few-words k) (subst (λ (r : Run). ShowsShadow w r d t) made-words shows)
+          comes (ap (is_arrival l) (shows.pc ∙ shown.pc ∙ place) ∙ block-arrives w a p block) (few-words k) k.none (subst (λ (r : Run). ShowsShadow w r d t) made-words shows)
           (subst (λ (r : Run). ComesTo w r f) made-words (at-block p base pt block place ok shown arrival)) (subst (λ (z : Run). LeavesOwn r z) made-words (kept-next quiet))
           (subst (λ (z : Run). SharedAs f z.shared r.shared) made-words (shared-next f next.shared y.shared r.shared (shared-there arrival) k.shared))
       by_leads (halts cause state t has ok stops) = parked_running (sym state ∙ shows.state)
@@ -323,6 +326,7 @@ module _ (w : World) (a : Accepted w) {x : ℕ → Answer} {r : Run} {f : Doing}
     pub asks : AsksIn l (Hcall unhinted) (words_on w x r (words - 1)) f
     pub sized : Sized (stock_of (words_on w x r (words - 1)))
     pub kept : LeavesOwn r (words_on w x r (words - 1))
+    pub none : NoneArrives w x r (words - 1 + 1)
 
   pub called : (unhinted : Bool) → e ≡ event.Call unhinted → Called unhinted
   called unhinted is =
@@ -333,6 +337,7 @@ module _ (w : World) (a : Accepted w) {x : ℕ → Answer} {r : Run} {f : Doing}
         asks = subst (λ (r : Run). AsksIn l (Hcall unhinted) r f) made-before (within-asks w y (Hcall unhinted) at.word refl k.within);
         sized = subst (λ (r : Run). Sized (stock_of r)) made-before k.sized;
         kept = subst (λ (z : Run). LeavesOwn r z) made-before k.kept;
+        none = subst (NoneArrives w x r) (omega (arith, k.number)) k.none;
       }
     where
       at : AtCall unhinted w y c s d t
@@ -396,6 +401,7 @@ begins_anew l c s w x r a same shows at =
       kept = record { own = refl; files = refl };
       shared = tt;
       few = omega arith;
+      none = none-yet w x r;
     }
   where
     site : ℕ
@@ -446,7 +452,7 @@ module _ (w : World) (a : Accepted w) {x : ℕ → Answer} {r : Run} {words : �
   -- nor does it come to a block
   pub never-comes : Passed w x r (restarts (boxed_site r.shared) (boxed_in r)) (63 + 5 * slots_in_use r.shared) words d t → is_arrival w.image.layout d.pc ≡ true → ⊥
   never-comes (goes_on between k) e = false_true (sym between ∙ e)
-  never-comes (comes there most shows at kept shared) e = at
+  never-comes (comes there most none shows at kept shared) e = at
 
   -- it makes its call
   pub calls-anew : (unhinted : Bool) → e ≡ event.Call unhinted → Restarts w x r d t (Some (walked.Call unhinted (words - 1)))
@@ -454,7 +460,7 @@ module _ (w : World) (a : Accepted w) {x : ℕ → Answer} {r : Run} {words : �
       let f : Called w a step k unhinted = called w a step k unhinted is in
       let true_is : true ≡ unhinted = let g : Hcall unhinted ≡ Hcall true = f.asks.unhinted in cc in
       subst (λ (b : Bool). Restarts w x r d t (Some (walked.Call b (words - 1)))) true_is
-      (again.calls (words - 1) (omega (arith, few-words k)) f.shows (f.word ∙ ap (λ (b : Bool). Some (Hcall b)) (sym true_is)) (unboxed w r.shared _ (Hcall unhinted) f.sized f.asks) f.kept)
+      (again.calls (words - 1) (omega (arith, few-words k)) f.none f.shows (f.word ∙ ap (λ (b : Bool). Some (Hcall b)) (sym true_is)) (unboxed w r.shared _ (Hcall unhinted) f.sized f.asks) f.kept)
 
 -- there are never more words than a walk has
 pub anew-few : (w : World) (a : Accepted w) {x : ℕ → Answer} {r : Run} {words : ℕ} {c : Core} {s : Space} → StandsAnew w r → Anew w x r words c s → words ≤ 63 + 5 * 65_536

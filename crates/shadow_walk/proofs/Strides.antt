@@ -1,5 +1,5 @@
 -- Each turn of the walk: a hart and a memory that show a run on its way through a block, and what the event of a step makes of them.
-use Rattle.std.proofs.Common.{◌≡◌, ℕ, suc, ◌+◌, ◌-◌, ◌≤◌, ◌⊎◌, inl, inr, Bool, true, false, Some, refl, ◌∙◌, ap, sym, subst, arith}
+use Rattle.std.proofs.Common.{◌≡◌, ℕ, suc, ◌+◌, ◌-◌, ◌^◌, ◌<◌, ◌≤◌, ◌⊎◌, inl, inr, Bool, true, false, Some, refl, ◌∙◌, ap, sym, subst, arith}
 use Rattle.std.specs.Prelude.{⊤, ◌≢◌}
 use Rattle.spec_base.specs.declared.layout.Layout.{Layout}
 use Rattle.spec_base.specs.declared.note.ShadowState.TheVariants.{Parked}
@@ -17,11 +17,13 @@ use Rattle.program_model.specs.PlainRun.{State, plan_of}
 use Rattle.run_model.specs.Run.{World, Run, Answer}
 use Rattle.run_model.specs.ShadowMoves.{is_arrival, is_call_word, shadow_step, shadow_plan, fetch_shadow}
 use Rattle.run_laws.specs.OwnLaws.{Accepted}
+use Rattle.run_model.specs.Restarts.{instr_at}
 use Rattle.run_model.specs.Marks.{no_marks}
 use Rattle.side_model.specs.Hart.{Regs, get}
 use Rattle.side_model.specs.Sees.{shade_of, HasRegs}
 use Rattle.run_laws.specs.Completes.{WordCompletes}
 use Rattle.own_laws.proofs.Reached.{false_true}
+use borrow.Author.Count.{below_more}
 use Rattle.shadow_laws.proofs.Sound.{Standing}
 use Rattle.mark_laws.specs.Agreement.{Agrees, SeesAlike, planned}
 use Rattle.mark_laws.proofs.OneCall.{plan_agrees}
@@ -32,18 +34,22 @@ use Rattle.hint_laws.proofs.Followed.{known, registers, view_in, is_storing}
 use Rattle.hint_laws.proofs.Views.{has-registers}
 use Rattle.shadow_laws.proofs.Sound.{parked_running}
 use Rattle.hint_laws.proofs.ParkPlaces.{is_named, park-named}
+use Rattle.code_model.specs.Places.{block_at}
 use Rattle.hart_mem.specs.Held.{Held, lacks_frame}
 use Rattle.hart_step.specs.Core.{Core}
 use Rattle.hart_step.specs.Step.{Outcome, outcome, stepped, effect_here}
 use Rattle.hart_step.specs.declared.event.Event.{Event}
 use Rattle.hart_step.specs.declared.event.Event.TheVariants as event
-use Rattle.shadow_walk.specs.Shows.{ShowsIn, ShowsShadow, AtKey, AtCall, MovesBy}
-use Rattle.shadow_walk.specs.Walks.{words_on, HasState, StandsAt, ParksBy, Walks, arrives, parks, calls}
+use Rattle.word_laws.specs.Shown.{ShowsIn, ShowsShadow}
+use Rattle.shadow_walk.specs.Shows.{AtKey, AtCall, MovesBy}
+use Rattle.shadow_walk.specs.Walks as walk
+use Rattle.shadow_walk.specs.Walks.{words_on, HasState, StandsAt, StandsAtCall, ParksBy, HasLog, Logs, NoneArrives, Walks, arrives, parks, calls}
 use Rattle.shadow_walk.specs.declared.walking.Walked.TheVariants as walked
 use Rattle.shadow_walk.proofs.Told.{Tells, tells}
 use Rattle.shadow_laws.proofs.ShadowNumbers.{of-sized}
 use Rattle.shadow_walk.proofs.OnTheWay.{use-none, Walking, walking-sees, Started, starts}
 use Rattle.shadow_walk.proofs.WalkEnds.{OnInstruction, on-instruction}
+use Rattle.shadow_walk.proofs.LogWords.{OnCall, log-starts, log-next, log-parks, log-calls}
 use Rattle.shadow_walk.proofs.WalkRows as asks
 use Rattle.shadow_walk.proofs.WalkRows.{within-some, is_other, Asks, AsksIn, within-asks, within-completes}
 use Rattle.hint_laws.proofs.WordFacts.{word-parks}
@@ -63,6 +69,23 @@ pub record Striding (w : World) (x : ℕ → Answer) (r : Run) (q : State) (word
   pub shows : ShowsShadow w run c s
   pub walking : Walking w q run doing left
   pub few : words + left ≤ 228
+  pub none : NoneArrives w x r words
+  pub bound : (i : ℕ) → r.shadow.registers i < 2 ^ 64
+  pub log : HasLog r → instr_at w.image q ≡ Some Ecall → OnCall w r q run
+
+-- before the first word none arrives
+pub none-yet : (w : World) (x : ℕ → Answer) (r : Run) → NoneArrives w x r 1
+none-yet w x r k few some = absurd (omega arith)
+
+-- nor does one that leads to no block
+pub none-more : (w : World) (x : ℕ → Answer) (r : Run) (n : ℕ) → NoneArrives w x r n → (0 < n → is_arrival w.image.layout (words_on w x r n).shadow.pc ≡ false) → NoneArrives w x r (n + 1)
+none-more w x r n = below_more (λ (k : ℕ). 0 < k → is_arrival w.image.layout (words_on w x r k).shadow.pc ≡ false) n
+
+-- a park by LogFull is a call's
+full-call : {w : World} {q : State} {m : Memory} {cause : Park} → ParksBy w q m cause → cause ≡ park.LogFull → instr_at w.image q ≡ Some Ecall
+full-call (walk.faults why) e = absurd cc
+full-call (walk.full_up op rs1 rs2 imm at runs none full) e = absurd cc
+full-call (walk.log_full call) e = call
 
 -- so it is in each run that they showed at word 1 of a block
 abbrev pub OnWay : Layout → ℕ → Core → Space → ℕ → Core → Space → Type 0
@@ -73,7 +96,7 @@ OnWay l key c s words d t =
 pub sets_out : (l : Layout) (key : ℕ) (c : Core) (s : Space) → OnWay l key c s 1 c s
 unfolding words_on
 sets_out l key c s w x r q a same shows at is_key =
-    let f : Started w q r = starts w a r q shows.state at in record { run = r; before = 0; number = refl; made = refl; doing = f.d; left = f.n; shows = shows; walking = f.walking; few = omega (arith, f.few) }
+    let f : Started w q r = starts w a r q shows.state at in record { run = r; before = 0; number = refl; made = refl; doing = f.d; left = f.n; shows = shows; walking = f.walking; few = omega (arith, f.few); none = none-yet w x r; bound = at.state.sized.registers; log = λ h call. log-starts w a r q call at.place shows.state at.state.tables at.state.has at.state.ok h.queue }
 
 -- ---- a step
 
@@ -139,14 +162,42 @@ module _ (w : World) (a : Accepted w) {x : ℕ → Answer} {r : Run} {q : State}
   few : words ≤ 227
   few = omega (arith, k.few, within-some k.walking.within)
 
+  some : 0 < words
+  some = omega (arith, k.number)
+
+  -- what an HKEY or an HCALL is asked with
+  asked : (gate : Instr) → fetch_shadow w y.shadow.pc ≡ Some gate → is_other (Some gate) ≡ false → AsksIn l gate y k.doing
+  asked gate f g = within-asks w y gate f g k.walking.within
+
+  -- the plan in the registers of a call is the state's
+  same-plan : (g : Regs) → SeesAlike l no_marks (view_in y) q → Agrees no_marks (registers g) q → reg y.shadow.registers 10 ≡ get 10 g → reg y.shadow.registers 11 ≡ get 11 g → reg y.shadow.registers 12 ≡ get 12 g
+      → reg y.shadow.registers 17 ≡ get 17 g → shadow_plan w y ≡ plan_of l q
+  same-plan g sees agrees e10 e11 e12 e17 =
+      let same : shadow_plan w y ≡ planned l (view_in y) y.shadow.files (registers g) = (λ i. call_plan (is_data l) (view_in y) y.shadow.files (e17 i) (e10 i) (e11 i) (e12 i)) in
+      same ∙ plan_agrees l no_marks (view_in y) y.shadow.files (registers g) q sees agrees k.walking.files (use-none l q Ecall)
+
+  -- an HKEY is asked with it
+  plans : fetch_shadow w y.shadow.pc ≡ Some (Hkey 31) → shadow_plan w y ≡ plan_of l q
+  plans f = by_doing k.doing (on-instruction k.walking.doing k.walking.plain k.walking.agrees) refl (asked (Hkey 31) f refl)
+    where
+      by_asks : (p : ℕ) (i : Instr) (g : Regs) → OnInstruction w q (does p i g) → does p i g ≡ k.doing → i ≡ Ecall → Asks (Hkey 31) (block_at l p) y.shadow.pc y.shadow.registers g → shadow_plan w y ≡ plan_of l q
+      by_asks p i g on same call (asks.key rd e e10 e11 e12 e17) =
+          let quiet : is_storing k.doing ≡ false = ap is_storing (sym same) ∙ ap (λ (i : Instr). is_storing (does p i g)) call in same-plan g (k.walking.sees quiet) on.3 e10 e11 e12 e17
+      by_asks p i g on same call (asks.call e place has) = absurd cc
+
+      by_doing : (d : Doing) → OnInstruction w q d → d ≡ k.doing → AsksIn l (Hkey 31) y d → shadow_plan w y ≡ plan_of l q
+      by_doing (does p i g) on same z = by_asks p i g on same z.0 z.1
+      by_doing (ends g) on same z = absurd z
+      by_doing _ on same z = absurd on
+
   -- a word that isn't an HCALL, and behind which the shadow runs
   behind : (m : Core) (u : Space) → is_call_word (fetch_shadow w y.shadow.pc) ≡ false → ShowsShadow w next m u → Turned w x r q words m u
   behind m u quiet shows = by_word (went w a (x k.before) k.walking)
     where
       by_word : Went w q y next k.left → Turned w x r q words m u
       by_word (word.still f j less between walking) =
-          goes_on (ap (is_arrival l) shows.pc ∙ between) (record { run = next; before = suc k.before; number = ap (λ (n : ℕ). n + 1) k.number ∙ omega arith; made = made-next; doing = f; left = j; shows = shows; walking = walking; few = omega (arith, k.few, less) })
-      by_word (word.came to completes there at runs) = comes (ap (is_arrival l) shows.pc ∙ there) (arrives words few (subst (λ (r : Run). ShowsShadow w r m u) made-words shows) to completes (subst (λ (r : Run). StandsAt w r to) made-words at))
+          goes_on (ap (is_arrival l) shows.pc ∙ between) (record { bound = k.bound; log = λ h call. log-next w a (x k.before) r q call h.short k.bound y k.walking.sized (k.log h call) plans quiet shows.state; none = none-more w x r words k.none (λ some. ap (λ (r : Run). is_arrival l r.shadow.pc) (sym made-words) ∙ between); run = next; before = suc k.before; number = ap (λ (n : ℕ). n + 1) k.number ∙ omega arith; made = made-next; doing = f; left = j; shows = shows; walking = walking; few = omega (arith, k.few, less) })
+      by_word (word.came to completes goes there at runs) = comes (ap (is_arrival l) shows.pc ∙ there) (arrives words some few k.none (subst (λ (r : Run). ShowsShadow w r m u) made-words shows) goes to completes (subst (λ (r : Run). StandsAt w r to) made-words at))
       by_word (word.calls f) = false_true (sym quiet ∙ ap is_call_word f)
       by_word (word.halted cause state why) = parked_running (sym state ∙ shows.state)
 
@@ -174,28 +225,18 @@ module _ (w : World) (a : Accepted w) {x : ℕ → Answer} {r : Run} {q : State}
       by_why : ParksBy w q y.shared cause ⊎ ((cause ≡ park.Exit) ⊎ (cause ≡ park.Store)) → Walks w x r q d t (Some (walked.Parked cause words))
       by_why (inl why) =
           let still : y.shared ≡ (words_on w x r words).shared = sym (word-parks w (x k.before) y cause (within-running k.walking.within) shows.state).shared ∙ ap (λ (r : Run). r.shared) made-words in
-          parks words few cause (subst (λ (r : Run). ShowsIn (Parked cause) w r d t) made-words shows) (subst (λ (m : Memory). ParksBy w q m cause) still why)
+          parks words some few k.none cause (subst (λ (r : Run). ShowsIn (Parked cause) w r d t) made-words shows) (subst (λ (m : Memory). ParksBy w q m cause) still why)
+          (λ full h. let call : instr_at w.image q ≡ Some Ecall = full-call why full in log-parks w a (x k.before) r q call h.short k.bound y k.walking.sized (k.log h call) plans (shows.state ∙ ap Parked full))
       by_why (inr (inl f)) = false_true (ap (λ (cause : Park). is_named (Hpark cause)) (sym f) ∙ named)
       by_why (inr (inr f)) = false_true (ap (λ (cause : Park). is_named (Hpark cause)) (sym f) ∙ named)
 
       by_word : Went w q y next k.left → Walks w x r q d t (Some (walked.Parked cause words))
       by_word (word.still f j less between walking) = parked_running (sym shows.state ∙ within-running walking.within)
-      by_word (word.came to completes there at runs) = parked_running (sym shows.state ∙ runs)
+      by_word (word.came to completes goes there at runs) = parked_running (sym shows.state ∙ runs)
       by_word (word.calls f) = false_true (ap is_call_word (sym hpark ∙ f))
       by_word (word.halted other state why) =
           let same : other ≡ cause = let f : Parked other ≡ Parked cause = sym state ∙ shows.state in cc in
           by_why (subst (λ (cause : Park). ParksBy w q y.shared cause ⊎ ((cause ≡ park.Exit) ⊎ (cause ≡ park.Store))) same why)
-
-  -- what an HKEY or an HCALL is asked with
-  asked : (gate : Instr) → fetch_shadow w y.shadow.pc ≡ Some gate → is_other (Some gate) ≡ false → AsksIn l gate y k.doing
-  asked gate f g = within-asks w y gate f g k.walking.within
-
-  -- the plan in the registers of a call is the state's
-  same-plan : (g : Regs) → SeesAlike l no_marks (view_in y) q → Agrees no_marks (registers g) q → reg y.shadow.registers 10 ≡ get 10 g → reg y.shadow.registers 11 ≡ get 11 g → reg y.shadow.registers 12 ≡ get 12 g
-      → reg y.shadow.registers 17 ≡ get 17 g → shadow_plan w y ≡ plan_of l q
-  same-plan g sees agrees e10 e11 e12 e17 =
-      let same : shadow_plan w y ≡ planned l (view_in y) y.shadow.files (registers g) = (λ i. call_plan (is_data l) (view_in y) y.shadow.files (e17 i) (e10 i) (e11 i) (e12 i)) in
-      same ∙ plan_agrees l no_marks (view_in y) y.shadow.files (registers g) q sees agrees k.walking.files (use-none l q Ecall)
 
   -- an HKEY, to which the key of the state's call is given
   pub keyed : (rd key : ℕ) → e ≡ event.Key rd → (m : Layout) → m ≡ l → key ≡ key_of (plan_of m q) → Turned w x r q words (record d { registers = with_reg d.registers rd key; pc = after d.pc }) t
@@ -211,11 +252,11 @@ module _ (w : World) (a : Accepted w) {x : ℕ → Answer} {r : Run} {q : State}
           (subst (λ (s : Space). ShowsShadow w next (record c { registers = with_reg c.registers rd number; pc = after c.pc }) s) (sym at.memory)
           (subst (λ (v : ℕ). ShowsShadow w next (record c { registers = with_reg c.registers rd v; pc = after c.pc }) s) f (at.answered (x k.before)))))
 
-      by_asks : (p : ℕ) (i : Instr) (g : Regs) → OnInstruction w q (does p i g) → does p i g ≡ k.doing → i ≡ Ecall → Asks (Hkey rd) y.shadow.registers g → Turned w x r q words (record d { registers = with_reg d.registers rd number; pc = after d.pc }) t
+      by_asks : (p : ℕ) (i : Instr) (g : Regs) → OnInstruction w q (does p i g) → does p i g ≡ k.doing → i ≡ Ecall → Asks (Hkey rd) (block_at l p) y.shadow.pc y.shadow.registers g → Turned w x r q words (record d { registers = with_reg d.registers rd number; pc = after d.pc }) t
       by_asks p i g on same call (asks.key rd' f e10 e11 e12 e17) =
           let quiet : is_storing k.doing ≡ false = ap is_storing (sym same) ∙ ap (λ (i : Instr). is_storing (does p i g)) call in
           by_key (ap key_of (same-plan g (k.walking.sees quiet) on.3 e10 e11 e12 e17) ∙ ap (λ (l : Layout). key_of (plan_of l q)) (sym same_layout) ∙ sym is_key)
-      by_asks p i g on same call (asks.call f has) = absurd cc
+      by_asks p i g on same call (asks.call f place has) = absurd cc
 
       by_doing : (f : Doing) → OnInstruction w q f → f ≡ k.doing → AsksIn l (Hkey rd) y f → Turned w x r q words (record d { registers = with_reg d.registers rd number; pc = after d.pc }) t
       by_doing (does p i g) on same f = by_asks p i g on same f.0 f.1
@@ -248,15 +289,25 @@ module _ (w : World) (a : Accepted w) {x : ℕ → Answer} {r : Run} {q : State}
             sized = of-sized y k.walking.sized;
           }
 
-      by_asks : (p : ℕ) (i : Instr) (g : Regs) → OnInstruction w q (does p i g) → does p i g ≡ k.doing → i ≡ Ecall → Asks (Hcall unhinted) y.shadow.registers g → Walks w x r q d t (Some (walked.Call unhinted (words - 1)))
+      by_asks : (p : ℕ) (i : Instr) (g : Regs) → OnInstruction w q (does p i g) → does p i g ≡ k.doing → i ≡ Ecall → Asks (Hcall unhinted) (block_at l p) y.shadow.pc y.shadow.registers g → Walks w x r q d t (Some (walked.Call unhinted (words - 1)))
       by_asks p i g on same call (asks.key rd f e10 e11 e12 e17) = absurd cc
-      by_asks p i g on same call (asks.call f has) =
+      by_asks p i g on same call (asks.call f place has) =
           let hinted : false ≡ unhinted = cc in
           let quiet : is_storing k.doing ≡ false = ap is_storing (sym same) ∙ ap (λ (i : Instr). is_storing (does p i g)) call in
           subst (λ (b : Bool). Walks w x r q d t (Some (walked.Call b (words - 1)))) hinted
-          (calls (words - 1) (omega (arith, few)) (subst (λ (r : Run). ShowsShadow w r d t) made-before shows)
-          (subst (λ (r : Run). fetch_shadow w r.shadow.pc ≡ Some (Hcall false)) made-before (at.word ∙ ap (λ (b : Bool). Some (Hcall b)) (sym hinted)))
-          (on.1 ∙ ap (λ (i : Instr). Some i) call) (subst (λ (r : Run). HasState w r q) made-before (state g (k.walking.sees quiet) on.3 has)))
+          (calls (words - 1) (omega (arith, few)) (subst (NoneArrives w x r) (omega (arith, some)) k.none) (subst (λ (r : Run). ShowsShadow w r d t) made-before shows)
+          (subst (λ (r : Run). StandsAtCall w r q) made-before
+          (record {
+            state = state g (k.walking.sees quiet) on.3 has;
+            call = on.1 ∙ ap (λ (i : Instr). Some i) call;
+            place = place ∙ ap (λ (p : ℕ). block_at l p + 24) on.0;
+            word = at.word ∙ ap (λ (b : Bool). Some (Hcall b)) (sym hinted);
+            goes_on = k.walking.goes_on;
+          }))
+          (λ h.
+          let there : instr_at w.image q ≡ Some Ecall = on.1 ∙ ap (λ (i : Instr). Some i) call in
+          subst (λ (z : Run). Logs (key_of (plan_of l q)) (r.shadow.registers 12) r.shared z.shared) made-before
+          (log-calls w a (x k.before) r q there h.short k.bound y k.walking.sized (k.log h there) plans (at.word ∙ ap (λ (b : Bool). Some (Hcall b)) (sym hinted)))))
 
       by_doing : (f : Doing) → OnInstruction w q f → f ≡ k.doing → AsksIn l (Hcall unhinted) y f → Walks w x r q d t (Some (walked.Call unhinted (words - 1)))
       by_doing (does p i g) on same f = by_asks p i g on same f.0 f.1

@@ -25,7 +25,7 @@ use Rattle.hart_step.specs.Core.{Core}
 use Rattle.hart_step.specs.Step.{stepped, gate_outcome, effect_here}
 use Rattle.hart_step.specs.declared.event.Event.{Event}
 use Rattle.hart_step.specs.declared.event.Event.TheVariants as event
-use Rattle.shadow_walk.specs.Shows.{ShowsShadow}
+use Rattle.word_laws.specs.Shown.{ShowsShadow}
 use Rattle.shadow_walk.proofs.Effects.{gate_word}
 
 -- where a step is done, its word is no HCALL; where it parks, an HPARK; where it traps, one that doesn't complete

@@ -27,7 +27,8 @@ use Rattle.code_model.specs.Tables.{Tabs}
 use Rattle.rows_access.specs.Accesses.{AccessFaults, may_access, load_size, store_size}
 use Rattle.rows_access.specs.StoreRows.{StoreParks, faults, full_up}
 use Rattle.rows_access.proofs.Traps.{load_traps, store_traps}
-use Rattle.rows_flow.specs.Following.{GoesOut, traps, leaves, FlowFaults}
+use Rattle.rows_flow.specs.Following as row
+use Rattle.rows_flow.specs.Following.{GoesOut, traps, leaves, IsTrap, FlowFaults}
 use Rattle.mark_laws.specs.Agreement.{Agrees, IsAt}
 use Rattle.mark_laws.proofs.OneInstruction.{unmarked-register, true_false}
 use Rattle.hint_laws.proofs.Within.{Doing, does, ends, restarts, goes_to}
@@ -36,7 +37,9 @@ use Rattle.hint_laws.proofs.WithinSteps as word
 use Rattle.hint_laws.proofs.Followed.{registers, regs_of, DoesOf, instruction, text_end, restart, is_restart}
 use Rattle.hint_laws.proofs.Views.{has-registers}
 use Rattle.hint_laws.proofs.Spots as spot
-use Rattle.shadow_walk.specs.Walks.{ParksBy}
+use Rattle.own_laws.proofs.Reached.{false_true, none_some}
+use Rattle.rv_model.specs.Rights.{in_text}
+use Rattle.shadow_walk.specs.Walks.{Faults, ParksBy}
 use Rattle.shadow_walk.specs.Walks as walk
 
 -- ---- where an effect goes
@@ -136,13 +139,22 @@ on-instruction (instruction i g word has) plain agrees = (refl, word, has, agree
 on-instruction (text_end g e) plain agrees = e
 on-instruction (restart g e) plain agrees = true_false plain
 
+-- a program that goes on, and in its text where it jumps, doesn't fault
+pub no-faults : (w : World) (q : State) {next : State} → next_state w.image w.files all_taken q ≡ Some next → (walk.jumps q.registers (instr_at w.image q) ≡ true → in_text w.image.layout next.pc ≡ true) → Faults w q → ⊥
+no-faults w q completes stays (inl none) = none_some (sym none ∙ completes)
+no-faults w q {next} completes stays (inr out) =
+    let same : out.next ≡ next = let f : Some out.next ≡ Some next = sym out.completes ∙ completes in cc in
+    false_true (sym out.outside ∙ ap (λ (s : State). in_text w.image.layout s.pc) same ∙ stays out.by_jump)
+
+-- ---- why it parks
+
 module _ (w : World) (a : Accepted w) (q : State) (going : q.exited ≡ None) (m : Memory) where
   abbrev l : Layout
   l = w.image.layout
 
   -- a trap
   by-trap : (i : Instr) → instr_at w.image q ≡ Some i → (t : Trap) → effect Plain (data_rights l) q.memory q.registers q.pc i ≡ Trapped t → ParksBy w q m park.Fault
-  by-trap i word t e = walk.traps (completes-as w.image w.files q i (record { goes_on = going; word = word }) (Trapped t) e)
+  by-trap i word t e = walk.faults (inl (completes-as w.image w.files q i (record { goes_on = going; word = word }) (Trapped t) e))
 
   -- the registers of a row that agrees are the state's
   same-registers : (g : Regs) → Agrees no_marks (registers g) q → (n : ℕ) → n < 32 → reg (registers g) n ≡ reg q.registers n
@@ -150,6 +162,14 @@ module _ (w : World) (a : Accepted w) (q : State) (going : q.exited ≡ None) (m
 
   same-address : (g : Regs) (imm : ℤ) → Agrees no_marks (registers g) q → (n : ℕ) → n < 32 → plus_int (get n g) imm ≡ plus_int (reg q.registers n) imm
   same-address g imm agrees n few = ap (λ (x : ℕ). plus_int x imm) (sym ((has-registers g).at n) ∙ same-registers g agrees n few)
+
+  -- whether an instruction jumps, by the row's registers and by the state's
+  pub same-jumps : (g : Regs) (i : Instr) → HasRegisters i → Agrees no_marks (registers g) q → row.jumps g i ≡ walk.jumps q.registers (Some i)
+  same-jumps g (Branch op rs1 rs2 imm) few agrees =
+      ap₂ (λ (x y : ℕ). is_taken op x y) (sym ((has-registers g).at rs1) ∙ same-registers g agrees rs1 few.0) (sym ((has-registers g).at rs2) ∙ same-registers g agrees rs2 few.1)
+  same-jumps g (Jal rd imm) few agrees = refl
+  same-jumps g (Jalr rd rs1 imm) few agrees = refl
+  same-jumps g _ few agrees = refl
 
   -- an instruction that goes out of the text, or traps
   by-flow : (p : ℕ) (i : Instr) (g : Regs) (cause : Park) → OnInstruction w q (does p i g) → FlowFaults l p i g cause → ParksBy w q m cause
@@ -160,11 +180,22 @@ module _ (w : World) (a : Accepted w) (q : State) (going : q.exited ≡ None) (m
       same : goal_of (effect Plain (data_rights l) q.memory (registers g) p i) ≡ goal_of (effect Plain (data_rights l) q.memory q.registers q.pc i)
       same = goal-alike (data_rights l) q.memory (registers g) q.registers p (same-registers g is.3) i is.2 ∙ ap (λ (pc : ℕ). goal_of (effect Plain (data_rights l) q.memory q.registers pc i)) is.0
 
+      by_jump : (rs : Registers) (pc : ℕ) → effect Plain (data_rights l) q.memory (registers g) p i ≡ Next rs pc → in_text l pc ≡ false → (b : Bool) → row.jumps g i ≡ b → ParksBy w q m park.Fault
+      by_jump rs pc e out true h =
+          let f : Goes (effect Plain (data_rights l) q.memory q.registers q.pc i) pc = goes-on _ pc (sym same ∙ ap goal_of e) in
+          walk.faults (inr (record {
+            next = record q { registers = f.rs; pc = pc };
+            completes = completes-as w.image w.files q i (record { goes_on = going; word = is.1 }) (Next f.rs pc) f.next;
+            by_jump = ap (walk.jumps q.registers) is.1 ∙ sym (same-jumps g i is.2 is.3) ∙ h;
+            outside = out;
+          }))
+      by_jump rs pc e out false h =
+          let t : IsTrap (effect Plain (data_rights l) q.memory (registers g) p i) = f.other h (data_rights l) q.memory (registers g) in
+          absurd (let k : Trapped t.cause ≡ Next rs pc = sym t.trap ∙ e in cc)
+
       by_end : (e : Effect) → effect Plain (data_rights l) q.memory (registers g) p i ≡ e → GoesOut l e → ParksBy w q m park.Fault
       by_end _ e (traps t) = let f : Fails (effect Plain (data_rights l) q.memory q.registers q.pc i) = fails _ (sym same ∙ ap goal_of e) in by-trap i is.1 f.t f.trap
-      by_end _ e (leaves rs pc out) =
-          let f : Goes (effect Plain (data_rights l) q.memory q.registers q.pc i) pc = goes-on _ pc (sym same ∙ ap goal_of e) in
-          walk.leaves (record q { registers = f.rs; pc = pc }) (completes-as w.image w.files q i (record { goes_on = going; word = is.1 }) (Next f.rs pc) f.next) out
+      by_end _ e (leaves rs pc out) = by_jump rs pc e out (row.jumps g i) refl
 
   -- a load
   by-load : (p : ℕ) (op : LoadOp) (rd rs1 : ℕ) (imm : ℤ) (g : Regs) (cause : Park) → OnInstruction w q (does p (Load op rd rs1 imm) g) → AccessFaults l (load_size op) (plus_int (get rs1 g) imm) cause → ParksBy w q m cause
@@ -182,15 +213,18 @@ module _ (w : World) (a : Accepted w) (q : State) (going : q.exited ≡ None) (m
       by-trap (Store op rs1 rs2 imm) is.1 t.0 t.1
   by-store p op rs1 rs2 imm g _ bytes t0 is (full_up may none full) then =
       let at : plus_int (get rs1 g) imm ≡ plus_int (reg q.registers rs1) imm = same-address g imm is.3 rs1 (is.2).0 in
-      let f : word.IsFullFor l m (plus_int (reg q.registers rs1) imm / 256) = subst (λ (x : ℕ). word.IsFullFor l m (x / 256)) at (then refl) in
-      walk.full_up op rs1 rs2 imm is.1 f.uncopied f.slots
+      let to : ℕ = plus_int (reg q.registers rs1) imm in
+      let f : word.IsFullFor l m (to / 256) = subst (λ (x : ℕ). word.IsFullFor l m (x / 256)) at (then refl) in
+      let stores = (store_traps l op to (reg q.registers rs2)).1 (subst (λ (x : ℕ). may_access l (store_size op) x ≡ true) at may) in
+      let completes = completes-as w.image w.files q (Store op rs1 rs2 imm) (record { goes_on = going; word = is.1 }) (Stored to (store_width op) (reg q.registers rs2)) stores in
+      walk.full_up op rs1 rs2 imm is.1 (no-faults w q completes (λ j. false_true (sym (ap (walk.jumps q.registers) is.1) ∙ j))) f.uncopied f.slots
 
   -- behind the text
   by-end : q.pc ≡ l.text_end → ParksBy w q m park.Fault
   by-end end = by_word (instr_at w.image q) refl
     where
       by_word : (o : Option Instr) → instr_at w.image q ≡ o → ParksBy w q m park.Fault
-      by_word None e = walk.traps (ap (λ exited. next_unless exited w.image w.files all_taken q) going ∙ ap (λ word. completed (at_word w.image w.files all_taken q word)) e)
+      by_word None e = walk.faults (inl (ap (λ exited. next_unless exited w.image w.files all_taken q) going ∙ ap (λ word. completed (at_word w.image w.files all_taken q word)) e))
       by_word (Some i) e = let s : spot.InstructionStands w q i = spot.instr-stands w a q i e in absurd (omega (arith, s.below, end))
 
   -- each park; an exit, or a look that fails, is told by another cause

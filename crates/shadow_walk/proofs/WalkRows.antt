@@ -24,7 +24,7 @@ use Rattle.run_model.specs.ShadowMoves.{fetch_shadow}
 use Rattle.side_model.specs.Hart.{Regs, get, put, Priv}
 use Rattle.code_model.specs.Tables.{Tabs}
 use Rattle.side_model.specs.Tables.{HasTabs}
-use Rattle.side_model.specs.Places.{Place, InBlock, Helper, Restarting, helper_words, Loading, Storing, Width, code, HasBlock}
+use Rattle.side_model.specs.Places.{Place, InBlock, address, Helper, Restarting, helper_words, Loading, Storing, Width, code, HasBlock}
 use Rattle.side_model.specs.Words.{exec_some}
 use Rattle.side_model.specs.Rows.{Led}
 use Rattle.side_model.specs.Sees.{Shade, shade_of, HasRegs}
@@ -299,20 +299,20 @@ store-other l p op rs1 rs2 imm program t0 (inr (stage, row, at)) = by_row row
 abbrev SameArguments : Regs → Regs → Type 0
 SameArguments rs q = (get 10 rs ≡ get 10 q) × (get 11 rs ≡ get 11 q) × (get 12 rs ≡ get 12 q) × (get 17 rs ≡ get 17 q)
 
--- what a row of a call says there: HKEY has the program's arguments, and HCALL all its registers
-data CallGate (word : Option Instr) (rs q : Regs) : Type 0 where
-  at_key : (rd : ℕ) → word ≡ Some (Hkey rd) → SameArguments rs q → CallGate word rs q
-  at_call : word ≡ Some (Hcall false) → rs ≡ q → CallGate word rs q
+-- what a row of a call says there: HKEY has the program's arguments, and HCALL, which is word 6, all its registers
+data CallGate (word : Option Instr) (place : Place) (rs q : Regs) : Type 0 where
+  at_key : (rd : ℕ) → word ≡ Some (Hkey rd) → SameArguments rs q → CallGate word place rs q
+  at_call : word ≡ Some (Hcall false) → place ≡ InBlock 6 → rs ≡ q → CallGate word place rs q
 
-call-gates : (l : Layout) (p : ℕ) {q : Regs} {place : Place} {rs : Regs} {s : Priv} {t : Tabs} {n : ℕ} → AnyCallRow l p q place rs s t n → is_other (code l (block l p Ecall) place) ≡ false → CallGate (code l (block l p Ecall) place) rs q
+call-gates : (l : Layout) (p : ℕ) {q : Regs} {place : Place} {rs : Regs} {s : Priv} {t : Tabs} {n : ℕ} → AnyCallRow l p q place rs s t n → is_other (code l (block l p Ecall) place) ≡ false → CallGate (code l (block l p Ecall) place) place rs q
 call-gates l p (a3 s) e = at_key 31 refl (refl, refl, refl, refl)
-call-gates l p (b6 s) e = at_call refl refl
+call-gates l p (b6 s) e = at_call refl refl refl
 call-gates l p _ e = true_false e
 
--- what is so of the hart's registers at such a word, for those at word 1
-pub data Asks (gate : Instr) (rs : Registers) (q : Regs) : Type 0 where
-  key : (rd : ℕ) → gate ≡ Hkey rd → reg rs 10 ≡ get 10 q → reg rs 11 ≡ get 11 q → reg rs 12 ≡ get 12 q → reg rs 17 ≡ get 17 q → Asks gate rs q
-  call : gate ≡ Hcall false → HasRegs rs q → Asks gate rs q
+-- what is so at such a word, in the block at base, of the hart's registers, for those at word 1, and of its pc
+pub data Asks (gate : Instr) (base pc : ℕ) (rs : Registers) (q : Regs) : Type 0 where
+  key : (rd : ℕ) → gate ≡ Hkey rd → reg rs 10 ≡ get 10 q → reg rs 11 ≡ get 11 q → reg rs 12 ≡ get 12 q → reg rs 17 ≡ get 17 q → Asks gate base pc rs q
+  call : gate ≡ Hcall false → pc ≡ base + 24 → HasRegs rs q → Asks gate base pc rs q
 
 -- the words of a list up to a number are others
 abbrev first-others : ℕ → List Instr → Bool
@@ -361,7 +361,7 @@ pub record Unboxes (l : Layout) (site : ℕ) (q : Regs) (gate : Instr) (r : Run)
 
 -- such a word is one of a call, or the HCALL of RESTART
 abbrev pub AsksIn : Layout → Instr → Run → Doing → Type 0
-AsksIn l word r (does p i q) = (i ≡ Ecall) × Asks word r.shadow.registers q
+AsksIn l word r (does p i q) = (i ≡ Ecall) × Asks word (block_at l p) r.shadow.pc r.shadow.registers q
 AsksIn l word r (ends q) = ⊥
 AsksIn l word r (restarts site q) = Unboxes l site q word r
 AsksIn l word r (goes_to to q) = ⊥
@@ -382,14 +382,14 @@ module _ (w : World) (r : Run) (gate : Instr) (word : fetch_shadow w r.shadow.pc
   other {words = words} at h = absurd (gated at (code w.image.layout words at.point.place) refl h)
 
   -- in a call
-  called : {p : ℕ} {q : Regs} {n : ℕ} → At w (block_at w.image.layout p) (block w.image.layout p Ecall) (bare (AnyCallRow w.image.layout p q)) (shade_of r) n → Asks gate r.shadow.registers q
+  called : {p : ℕ} {q : Regs} {n : ℕ} → At w (block_at w.image.layout p) (block w.image.layout p Ecall) (bare (AnyCallRow w.image.layout p q)) (shade_of r) n → Asks gate (block_at w.image.layout p) r.shadow.pc r.shadow.registers q
   called {p} {q} at = by_test (is_other (code w.image.layout (block w.image.layout p Ecall) at.point.place)) refl
     where
-      by_gate : CallGate (code w.image.layout (block w.image.layout p Ecall) at.point.place) at.point.regs q → Asks gate r.shadow.registers q
+      by_gate : CallGate (code w.image.layout (block w.image.layout p Ecall) at.point.place) at.point.place at.point.regs q → Asks gate (block_at w.image.layout p) r.shadow.pc r.shadow.registers q
       by_gate (at_key rd e same) = key rd (same-word at (Hkey rd) e) (at.shown.regs.at 10 ∙ same.0) (at.shown.regs.at 11 ∙ same.1) (at.shown.regs.at 12 ∙ same.2) (at.shown.regs.at 17 ∙ same.3)
-      by_gate (at_call e same) = call (same-word at (Hcall false) e) (subst (λ (rs : Regs). HasRegs r.shadow.registers rs) same at.shown.regs)
+      by_gate (at_call e sixth same) = call (same-word at (Hcall false) e) (at.shown.pc ∙ ap (address (block_at w.image.layout p)) sixth) (subst (λ (rs : Regs). HasRegs r.shadow.registers rs) same at.shown.regs)
 
-      by_test : (b : Bool) → is_other (code w.image.layout (block w.image.layout p Ecall) at.point.place) ≡ b → Asks gate r.shadow.registers q
+      by_test : (b : Bool) → is_other (code w.image.layout (block w.image.layout p Ecall) at.point.place) ≡ b → Asks gate (block_at w.image.layout p) r.shadow.pc r.shadow.registers q
       by_test true e = other at e
       by_test false e = by_gate (call-gates w.image.layout p at.row e)
 

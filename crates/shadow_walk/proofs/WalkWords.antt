@@ -48,14 +48,16 @@ use Rattle.hint_laws.proofs.Views.{known-number, stored-seen, has-registers, no_
 use Rattle.hint_laws.proofs.WordFacts.{WordLeaves, word-leaves, word-hints_stay}
 use Rattle.hint_laws.proofs.Spots.{inner-arrival, within-whole}
 use Rattle.hint_laws.proofs.Going.{program-left, alike-left}
-use Rattle.shadow_walk.specs.Walks.{StandsAt, ParksBy}
+use Rattle.rv_model.specs.Rights.{in_text}
+use Rattle.own_laws.proofs.Reached.{false_true}
+use Rattle.shadow_walk.specs.Walks.{jumps, Faults, StandsAt, ParksBy}
 use Rattle.shadow_walk.proofs.OnTheWay.{marks-none, store-none, use-none, Walking, walking-sees}
-use Rattle.shadow_walk.proofs.WalkEnds.{OnInstruction, on-instruction, parks-by}
+use Rattle.shadow_walk.proofs.WalkEnds.{OnInstruction, on-instruction, same-jumps, no-faults, parks-by}
 
 -- what a word has led to
 pub data Went (w : World) (q : State) (y next : Run) (n : ℕ) : Type 0 where
   still : (d : Doing) (k : ℕ) → k < n → is_arrival w.image.layout next.shadow.pc ≡ false → Walking w q next d k → Went w q y next n
-  came : (to : State) → next_state w.image w.files all_taken q ≡ Some to → is_arrival w.image.layout next.shadow.pc ≡ true → StandsAt w next to → next.shadow.state ≡ Running → Went w q y next n
+  came : (to : State) → next_state w.image w.files all_taken q ≡ Some to → ¬ Faults w q → is_arrival w.image.layout next.shadow.pc ≡ true → StandsAt w next to → next.shadow.state ≡ Running → Went w q y next n
   calls : fetch_shadow w y.shadow.pc ≡ Some (Hcall false) → Went w q y next n
   halted : (cause : Park) → next.shadow.state ≡ Parked cause → ParksBy w q y.shared cause ⊎ ((cause ≡ park.Exit) ⊎ (cause ≡ park.Store)) → Went w q y next n
 
@@ -96,9 +98,9 @@ module _ (w : World) (a : Accepted w) (x : Answer) {q : State} {y : Run} {d : Do
 
   -- there it stands for a state with these registers, and the descriptors of the last
   stands : {p base : ℕ} {pt : Point} {new : Registers} → Arrives p base pt → IsQuiet w y → HasRegs new pt.regs → (to : State) → next_state w.image w.files all_taken q ≡ Some to
-      → to.pc ≡ p → to.files ≡ q.files → to.exited ≡ None → Agrees no_marks new to → SeesAlike l no_marks (view_in next) to → Went w q y next n
-  stands {p} {base} {pt} {new} at quiet has to completes pc files going agrees alike =
-      came to completes (ap (is_arrival l) (at.shown.pc ∙ at.place) ∙ block-arrives w a p at.block)
+      → to.pc ≡ p → (jumps q.registers (instr_at w.image q) ≡ true → in_text l p ≡ true) → to.files ≡ q.files → to.exited ≡ None → Agrees no_marks new to → SeesAlike l no_marks (view_in next) to → Went w q y next n
+  stands {p} {base} {pt} {new} at quiet has to completes pc inside files going agrees alike =
+      came to completes (no-faults w q completes (λ j. ap (in_text l) pc ∙ inside j)) (ap (is_arrival l) (at.shown.pc ∙ at.place) ∙ block-arrives w a p at.block)
       (record {
         state =
             record {
@@ -121,19 +123,23 @@ module _ (w : World) (a : Accepted w) (x : Answer) {q : State} {y : Run} {d : Do
   clean i h = record { registers = λ j above below u. h.registers j above below (marks-none l q i j) }
 
   -- the state goes on with its memory and its descriptors
-  flow-stands : {p base target : ℕ} {pt : Point} {new : Registers} {i : Instr} → Arrives p base pt → IsQuiet w y → HasRegs new pt.regs → FlowLeads w.image w.files false no_marks q i new target → target ≡ p → next.shared ≡ y.shared
-      → is_storing d ≡ false → Went w q y next n
-  flow-stands {i = i} at quiet has f pc same other =
+  flow-stands : {p base target : ℕ} {pt : Point} {new : Registers} {i : Instr} → Arrives p base pt → IsQuiet w y → HasRegs new pt.regs → FlowLeads w.image w.files false no_marks q i new target → target ≡ p
+      → (jumps q.registers (instr_at w.image q) ≡ true → in_text l p ≡ true) → next.shared ≡ y.shared → is_storing d ≡ false → Went w q y next n
+  flow-stands {i = i} at quiet has f pc inside same other =
       let alike : SeesAlike l (marks_after l false q (Some i) no_marks) (view_in y) f.leads.state = f.sees (view_in y) (k.sees other) in
-      stands at quiet has f.leads.state f.leads.completes (f.leads.pc ∙ pc) f.leads.descriptors f.leads.goes_on (clean i f.leads.agrees)
+      stands at quiet has f.leads.state f.leads.completes (f.leads.pc ∙ pc) inside f.leads.descriptors f.leads.goes_on (clean i f.leads.agrees)
       (record { bytes = λ b inside u. ap (λ (m : Memory). m b) (view-stays same) ∙ alike.bytes b inside (ap (λ (marks : ℕ → Bool). marks b) f.bytes) })
 
   -- the next word of the text
   next-word : {p target : ℕ} → p ≡ q.pc → target ≡ p + 4 → target ≤ l.text_end → after q.pc ≡ target
   next-word pc e most = omega (arith, pc, e, most, (text w a).below)
 
+  -- an instruction that is no jump
+  no-jump : {A : Type 0} {i : Instr} → instr_at w.image q ≡ Some i → jumps q.registers (Some i) ≡ false → jumps q.registers (instr_at w.image q) ≡ true → A
+  no-jump word e j = false_true (sym e ∙ sym (ap (jumps q.registers) word) ∙ j)
+
   -- behind an instruction that touches no memory
-  flowed : {p target base : ℕ} {i : Instr} {g : Regs} {pt : Point} → OnInstruction w q (does p i g) → is_storing d ≡ false → FlowArrives p i g target pt.regs → next.shared ≡ y.shared → Arrives target base pt → IsQuiet w y → Went w q y next n
+  flowed : {p target base : ℕ} {i : Instr} {g : Regs} {pt : Point} → OnInstruction w q (does p i g) → is_storing d ≡ false → FlowArrives l p i g target pt.regs → next.shared ≡ y.shared → Arrives target base pt → IsQuiet w y → Went w q y next n
   flowed {p} {target} {i = i} {g} {pt} is other arrives same at quiet =
       let seen : Memory = view_in y in
       let went : GoesOn (effect Plain no_rights seen (registers g) p i) target pt.regs = arrives.goes no_rights seen (registers g) (has-registers g) in
@@ -142,7 +148,7 @@ module _ (w : World) (a : Accepted w) (x : Answer) {q : State} {y : Run} {d : Do
       flow-stands at quiet gone.shown
       (flow_agrees w.image w.files false no_marks q i (registers g) seen gone.registers target (is-at i is.1) is.2 flow.no_load (use-none l q i) is.3
       (subst (λ (z : ℕ). effect Plain (data_rights l) seen (registers g) z i ≡ Next gone.registers target) is.0 gone.next))
-      refl same other
+      refl (λ j. arrives.inside (same-jumps w a q k.goes_on y.shared g i is.2 is.3 ∙ sym (ap (jumps q.registers) is.1) ∙ j)) same other
 
   -- behind a load
   loaded_there : {p rd rs1 target base : ℕ} {op : LoadOp} {imm : ℤ} {g : Regs} {pt : Point} → OnInstruction w q (does p (Load op rd rs1 imm) g) → is_storing d ≡ false
@@ -157,13 +163,13 @@ module _ (w : World) (a : Accepted w) (x : Answer) {q : State} {y : Run} {d : Do
       flow-stands at quiet (subst (λ (z : Regs). HasRegs (with_reg (registers g) rd (extended op arrives.number)) z) (sym arrives.registers) (HasRegs-put (registers g) g rd (extended op arrives.number) (has-registers g)))
       (load_agrees w.image w.files false no_marks q op rd rs1 imm (registers g) arrives.number (is-at (Load op rd rs1 imm) is.1) is.2 refl is.3 may
       (known-number l no_marks q from (load_width op) arrives.number inside given))
-      (next-word is.0 arrives.next at.block.below) shared other
+      (next-word is.0 arrives.next at.block.below) (λ j. no-jump is.1 refl j) shared other
 
   -- behind a store
   stored_there : {p rs1 rs2 target base : ℕ} {op : StoreOp} {imm : ℤ} {g : Regs} {pt : Point} {t0 : Tabs} → OnInstruction w q (does p (Store op rs1 rs2 imm) g)
       → StoreArrives l p op rs1 rs2 imm g (known l no_marks q) (program_in w y) t0 target pt.regs pt.tabs next.shared → Arrives target base pt → IsQuiet w y → Went w q y next n
   stored_there {p} {rs1} {rs2} {target} {op = op} {imm} {g} {pt} is arrives at quiet =
-      stands at quiet (subst (λ (z : Regs). HasRegs (registers g) z) (sym arrives.registers) (has-registers g)) f.leads.state f.leads.completes (f.leads.pc ∙ next-word is.0 arrives.next at.block.below) f.leads.descriptors f.leads.goes_on
+      stands at quiet (subst (λ (z : Regs). HasRegs (registers g) z) (sym arrives.registers) (has-registers g)) f.leads.state f.leads.completes (f.leads.pc ∙ next-word is.0 arrives.next at.block.below) (λ j. no-jump is.1 refl j) f.leads.descriptors f.leads.goes_on
       (clean (Store op rs1 rs2 imm) f.leads.agrees) (record { bytes = λ b inside u. seen.bytes b inside (store-none to width b) })
     where
       -- the address, by the row's, the hart's and the state's registers

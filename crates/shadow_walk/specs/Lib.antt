@@ -1,3 +1,4 @@
 pub mod Shows
 pub mod Walks
 pub mod Restarts
+pub mod Performed

@@ -21,9 +21,9 @@ use Rattle.code_model.specs.Tables.{Tabs, TableOk, all_regions}
 use Rattle.side_model.specs.Tables.{HasTabs}
 use Rattle.rows_log.specs.CallRows.{IsSite}
 use Rattle.hart_step.specs.Core.{Core}
-use Rattle.shadow_walk.specs.Shows.{ShowsIn, ShowsShadow}
+use Rattle.word_laws.specs.Shown.{ShowsIn, ShowsShadow}
 use Rattle.run_laws.specs.Numbers.{IsSized}
-use Rattle.shadow_walk.specs.Walks.{words_on}
+use Rattle.shadow_walk.specs.Walks.{NoneArrives, words_on}
 use Rattle.shadow_walk.specs.declared.walking.Walked.{Walked}
 use Rattle.shadow_walk.specs.declared.walking.Walked.TheVariants as walked
 
@@ -92,18 +92,18 @@ pub record LeavesOwn (old new : Run) : Type 0 where
 
 -- from the first word of RESTART: after so many words, 5 for each region in use and 63 more at most, the shadow is at the HCALL of RESTART, with what the box had. Hart and memory show the run then
 pub data Restarts (w : World) (x : ℕ → Answer) (r : Run) (core : Core) (space : Space) : Option Walked → Type 0 where
-  calls : (n : ℕ) → n ≤ 63 + 5 * slots_in_use r.shared → ShowsShadow w (words_on w x r n) core space → fetch_shadow w (words_on w x r n).shadow.pc ≡ Some (Hcall true)
+  calls : (n : ℕ) → n ≤ 63 + 5 * slots_in_use r.shared → NoneArrives w x r (n + 1) → ShowsShadow w (words_on w x r n) core space → fetch_shadow w (words_on w x r n).shadow.pc ≡ Some (Hcall true)
       → IsUnboxed w r.shared (words_on w x r n) → LeavesOwn r (words_on w x r n) → Restarts w x r core space (Some (walked.Call true n))
 
 -- a walk in each run that hart and memory show at the first word of RESTART, whatever the outside answers. The second hart and memory are those after it
 abbrev pub GoesAnew : Layout → Option Walked → Core → Space → Core → Space → Type 0
 GoesAnew l result c s d t = (w : World) (x : ℕ → Answer) (r : Run) → Accepted w → l ≡ w.image.layout → ShowsShadow w r c s → StandsAnew w r → Restarts w x r d t result
 
--- behind an HCALL: after so many words, most at most, the shadow stands at the block of the address behind the call, with these registers and all that is shared as it was; or, where that address is the text's end, it is parked by Fault
+-- behind an HCALL, up to the first arrival or park: after so many words, most at most, the shadow stands at the block of the address behind the call, with these registers and all that is shared as it was; or, exactly where that address is the text's end, it is parked by Fault
 pub data Returns (w : World) (x : ℕ → Answer) (r : Run) (to : ℕ) (rs : Registers) (most : ℕ) (core : Core) (space : Space) : Option Walked → Type 0 where
-  arrives : (n : ℕ) → n ≤ most → ShowsShadow w (words_on w x r n) core space → StandsOn w (words_on w x r n) to rs → LeavesOwn r (words_on w x r n) → (words_on w x r n).shared ≡ r.shared
+  arrives : (n : ℕ) → 0 < n → n ≤ most → NoneArrives w x r n → ShowsShadow w (words_on w x r n) core space → to < w.image.layout.text_end → StandsOn w (words_on w x r n) to rs → LeavesOwn r (words_on w x r n) → (words_on w x r n).shared ≡ r.shared
       → Returns w x r to rs most core space (Some (walked.Arrived n))
-  parks : (n : ℕ) → n ≤ most → ShowsIn (Parked Fault) w (words_on w x r n) core space → to ≡ w.image.layout.text_end → Returns w x r to rs most core space (Some (walked.Parked Fault n))
+  parks : (n : ℕ) → 0 < n → n ≤ most → NoneArrives w x r n → ShowsIn (Parked Fault) w (words_on w x r n) core space → to ≡ w.image.layout.text_end → Returns w x r to rs most core space (Some (walked.Parked Fault n))
 
 -- in the block of a call it stands there after one word, even at the text's end
 pub record ReturnsAtOnce (w : World) (x : ℕ → Answer) (r : Run) (to : ℕ) (core : Core) (space : Space) (result : Option Walked) : Type 0 where

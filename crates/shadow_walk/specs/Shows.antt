@@ -1,8 +1,6 @@
--- When a hart and its memory show the shadow of a run, and what the shadow's move is by the event of a step (this project's own).
+-- What the shadow's move is by the event of a step (this project's own).
 use Rattle.std.specs.Prelude.{ℕ, ◌≡◌, Bool, Some}
-use Rattle.spec_base.specs.declared.machine.View.TheVariants.{Shadow}
-use Rattle.spec_base.specs.declared.note.ShadowState.{ShadowState}
-use Rattle.spec_base.specs.declared.note.ShadowState.TheVariants.{Running, Parked}
+use Rattle.spec_base.specs.declared.note.ShadowState.TheVariants.{Parked}
 use Rattle.spec_base.specs.declared.park.Park.TheVariants.{Fault}
 use Rattle.rv_decode.specs.declared.instr.Instr.TheVariants.{Hkey, Hcall}
 use Rattle.rv_model.specs.Registers.{with_reg}
@@ -11,24 +9,10 @@ use Rattle.rv_model.specs.Space.{Space}
 use Rattle.program_model.specs.Calls.{key_of}
 use Rattle.run_model.specs.Run.{World, Run, Answer}
 use Rattle.run_model.specs.ShadowMoves.{fetch_shadow, shadow_plan, shadow_step}
-use Rattle.machine_laws.specs.OneMachine.{space_of_run}
 use Rattle.hart_step.specs.Core.{Core}
 use Rattle.hart_step.specs.declared.event.Event.{Event}
 use Rattle.hart_step.specs.declared.event.Event.TheVariants as event
-
--- ---- what is shown
-
--- hart and memory show a run whose shadow is in this state. The registers are the same function, since a run writes them as a hart does
-pub record ShowsIn (at : ShadowState) (w : World) (r : Run) (c : Core) (s : Space) : Type 0 where
-  pub view : c.view ≡ Shadow
-  pub registers : c.registers ≡ r.shadow.registers
-  pub pc : c.pc ≡ r.shadow.pc
-  pub space : s ≡ space_of_run w r
-  pub state : r.shadow.state ≡ at
-
--- they show a run whose shadow is running
-abbrev pub ShowsShadow : World → Run → Core → Space → Type 0
-ShowsShadow = ShowsIn Running
+use Rattle.word_laws.specs.Shown.{ShowsIn, ShowsShadow}
 
 -- ---- one move. In these c and s are the hart and the memory before a step, and d and t those after it
 

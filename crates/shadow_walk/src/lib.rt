@@ -2,10 +2,12 @@
 //! run that hart and memory show.
 #![tactic(auto)]
 
+mod calls;
 mod moves;
 #[cfg(test)]
 mod tests;
 mod walking;
 
+pub use calls::calls_are_performed;
 pub use moves::advance;
 pub use walking::{Walked, walk};

@@ -3,7 +3,7 @@
 ghost use Rattle.std.specs.Prelude.{◌≡◌, IsTrue};
 ghost use Rattle.spec_base.specs.Layout.{is_lawful};
 ghost use Rattle.spec_base.specs.declared.machine.View.TheVariants.{Shadow};
-ghost use Rattle.hart_mem.specs.Held.{space_of};
+ghost use Rattle.hart_mem.specs.Held.{space_of, spare_of};
 ghost use Rattle.hart_step.specs.Core.{core_of};
 ghost use Rattle.run_model.specs.ShadowMoves.{is_arrival};
 ghost use Rattle.shadow_walk.specs.Walks.{BlockIsOneInstruction};
@@ -34,12 +34,16 @@ const MOST_WORDS: u32 = 72 + 5 * 65_536;
 /// executed, which no code of a rewritten program does.
 ///
 /// From word 1 of an instruction's block on, where `key` is that of the call in the registers, the
-/// walk is one instruction of the program, by 227 words at most. From RESTART's first word it takes
-/// 63 words at most and 5 for each region in use, and from an HCALL on 19.
+/// walk is one instruction of the program, by 227 words at most. It parks by Fault exactly where the
+/// program traps or jumps out of its text, by LogFull exactly at a call with a key where 64 pairs
+/// wait, and by Regions only at a store whose region has no copy, with all slots in use. From
+/// RESTART's first word it takes 63 words at most and 5 for each region in use. From an HCALL on it
+/// takes 19, and parks, by Fault, exactly where the place behind a restart is the text's end.
 pub fn walk(hart: &mut Hart, mem: &mut Mem, layout: &Layout, key: u64) -> Option<Walked>
     requires shadow { (core_of hart.old).view ≡ Shadow }
     requires lawful { IsTrue (is_lawful layout.now) }
     ensures view { (core_of hart.new).view ≡ Shadow }
+    ensures spare { spare_of mem.new ≡ spare_of mem.old }
     ensures block { BlockIsOneInstruction layout.now key result (core_of hart.old) (space_of mem.old) (core_of hart.new) (space_of mem.new) }
     ensures anew { GoesAnew layout.now result (core_of hart.old) (space_of mem.old) (core_of hart.new) (space_of mem.new) }
     ensures onward { GoesOnward layout.now result (core_of hart.old) (space_of mem.old) (core_of hart.new) (space_of mem.new) }

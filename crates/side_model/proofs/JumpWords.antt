@@ -78,7 +78,7 @@ module _ (l : Layout) (at : ℕ) (q : Regs) (base : ℕ) (words : List Instr) (p
     where
       even-block : may l at q ≡ true → even (wrap (block_at l (goal l at q) + 0)) ≡ base + 4 * 0
       even-block h = let i : IsInText l (goal l at q) = target-inside l (goal l at q) h in omega (arith, fits.place h, i.above, i.below, text.few)
-  jump-words m ok (lands p h) = rw (fits.pad h) (arrives (goal l at q) (ap (λ b. b + 4 * 1) (fits.place h)) (block h) (record { target = refl; registers = refl }) ok)
+  jump-words m ok (lands p h) = rw (fits.pad h) (arrives (goal l at q) (ap (λ b. b + 4 * 1) (fits.place h)) (block h) (record { target = refl; inside = h; registers = refl }) ok)
     where
       block : may l at q ≡ true → HasBlock l (goal l at q)
       block h = let i : IsInText l (goal l at q) = target-inside l (goal l at q) h in record { above = i.above; below = omega (arith, i.below); whole = omega (arith, i.whole, text.start) }

@@ -68,9 +68,10 @@ module _ (l : Layout) (at : ℕ) (q : Regs) where
     -- the target isn't in the text, or no multiple of 4
     faults : {rs : Regs} (p : Priv) {t : Tabs} → may ≡ false → JumpRow (InHelper Faulting 0) rs p t 1
 
-  -- at the arrival the registers are the program's
+  -- it arrives in the text alone, and there the registers are the program's
   pub record JumpArrives (p : ℕ) (rs : Regs) (t : Tabs) (m : Memory) : Type 0 where
     pub target : p ≡ goal
+    pub inside : may ≡ true
     pub registers : rs ≡ q
 
   -- it parks where the program would trap

@@ -4,7 +4,7 @@ use Rattle.cow_regions.proofs.CopyRuns.{IsMade-start, IsMade-more, IsMade-end, I
 use Rattle.cow_regions.proofs.copying.make_copies.Goals as goal
 
 pub loop-region-init : goal.loop-region-init
-loop-region-init c = record { made = IsMade-start (space_of c.args.mem.now) c.args.first c.args.end c.requires.consistent c.requires.room; spare = refl }
+loop-region-init c = record { made = IsMade-start (space_of c.args.mem.now) c.args.first c.args.end c.requires.room; spare = refl }
 
 pub make_copy-requires-clause-room : goal.make_copy-requires-clause-room
 make_copy-requires-clause-room c = IsMade-room (space_of c.args.mem.now) (space_of c.loop-region.mem) c.args.first c.loop-region.region c.args.end c.requires.few c.loop-region.invariant.made c.loop-region-test.true c.requires.inside

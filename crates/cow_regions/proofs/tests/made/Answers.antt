@@ -3,12 +3,10 @@ use Rattle.std.proofs.lemmas.Bool.Decides.{nat_tests}
 use Rattle.spec_base.specs.Layout.{is_lawful}
 use Rattle.spec_base.specs.declared.layout.Layout.{Layout}
 use Rattle.spec_base.specs.declared.layout.Version.TheVariants.{Two}
-use Rattle.rv_model.specs.Memory.{Memory, zeros, all_from}
+use Rattle.rv_model.specs.Memory.{all_from}
 use Rattle.rv_model.specs.Rights.{is_data}
 use Rattle.rv_model.specs.Space.{Space}
 use Rattle.hart_mem.specs.Held.{space_of}
-use Rattle.code_model.specs.Tables.{AreConsistent}
-use Rattle.cow_regions.proofs.Copies.{consistent-zeros}
 use Rattle.cow_regions.proofs.RangeBytes.{data-past}
 use Rattle.cow_regions.proofs.tests.made.Goals as goal
 
@@ -25,10 +23,5 @@ fill-requires c =
     subst (λ (l : Layout). IsTrue (all_from (is_data l) 0x20_0FFF 260)) (sym layout)
     (data-past c.small.result 0x20_0FFF 260 is_lawful (ap (λ (l : Layout). l.version) c.small.ensures) (omega (arith, ap (λ (l : Layout). l.text_end) c.small.ensures)) (omega arith))
 
-pub returns-clause-layout : goal.returns-clause-layout
-returns-clause-layout c = ap (λ (s : Space). s.layout) c.in_ok-fill.ensures.ok ∙ ap (λ (s : Space). s.layout) c.in_ok-mem.ensures.space ∙ c.small.ensures
-
-pub returns-clause-consistent : goal.returns-clause-consistent
-returns-clause-consistent c =
-    let shared : (space_of c.fill.new.self).shared ≡ zeros = ap (λ (s : Space). s.shared) c.in_ok-fill.ensures.ok ∙ ap (λ (s : Space). s.shared) c.in_ok-mem.ensures.space in
-    subst (λ (m : Memory). AreConsistent (space_of c.fill.new.self).layout m) (sym shared) (consistent-zeros (space_of c.fill.new.self).layout)
+pub returns : goal.returns
+returns c = ap (λ (s : Space). s.layout) c.in_ok-fill.ensures.ok ∙ ap (λ (s : Space). s.layout) c.in_ok-mem.ensures.space ∙ c.small.ensures

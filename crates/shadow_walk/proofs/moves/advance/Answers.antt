@@ -1,9 +1,10 @@
 use Rattle.std.proofs.Common.{sym, ap, subst, ◌∙◌}
 use Rattle.spec_base.specs.declared.machine.View.{View}
-use Rattle.hart_mem.specs.Held.{lacks_frame, space_of}
+use Rattle.hart_mem.specs.Held.{lacks_frame, pages_stored, space_of}
 use Rattle.hart_step.specs.Core.{core_of}
 use Rattle.hart_step.specs.Step.{Outcome, stepped, effect_here}
 use Rattle.shadow_walk.specs.Shows.{MovesBy}
+use Rattle.word_laws.proofs.ShadowSteps.{shadow_words_lead}
 use Rattle.shadow_walk.proofs.Moved.{moves_by, never_starved, stays_in_view}
 use Rattle.shadow_walk.proofs.moves.advance.Goals as goal
 
@@ -19,6 +20,12 @@ returns-clause-never_starved c q =
     let s = space_of c.args.mem.now in
     never_starved c.args.mem.now (effect_here h s) h s
     (ap (λ (v : View). (stepped (lacks_frame v c.args.mem.now) (effect_here h s) h s).event) (sym c.requires.shadow) ∙ sym (ap (λ (o : Outcome). o.event) c.step.ensures.outcome) ∙ q)
+
+pub returns-clause-spare : goal.returns-clause-spare
+returns-clause-spare c = c.step.ensures.kept (ap pages_stored c.requires.shadow)
+
+pub returns-clause-goes : goal.returns-clause-goes
+returns-clause-goes c w r accepted shows = shadow_words_lead w r accepted c.args.mem.now c.step.result (core_of c.args.hart.now) (space_of c.args.mem.now) (core_of c.step.new.hart) (space_of c.step.new.mem) shows c.step.ensures.outcome
 
 pub returns-clause-moves : goal.returns-clause-moves
 returns-clause-moves c w r accepted shows =
