@@ -8,7 +8,7 @@ use Rattle.rv_model.specs.Effect.{Effect, Next, Stored, Trapped, Called, Gated, 
 use Rattle.rv_model.specs.Space.{Space}
 use Rattle.run_model.specs.Run.{World, Run, Answer}
 use Rattle.run_model.specs.OwnMoves.{own_in, program_after}
-use Rattle.run_model.specs.OwnLaws.{Accepted}
+use Rattle.run_laws.specs.OwnLaws.{Accepted}
 use Rattle.machine_laws.specs.OneMachine.{space_of_run, own_effect, IsOfView}
 use Rattle.machine_laws.proofs.Steps.{steps_same}
 use Rattle.machine_laws.proofs.Gates.{effects_of_view}

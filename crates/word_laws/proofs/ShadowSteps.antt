@@ -13,7 +13,7 @@ use Rattle.rv_model.specs.Effect.{Effect, Next, Stored, Trapped, Called, Gated, 
 use Rattle.rv_model.specs.Space.{Space, shadow_stored, word_at}
 use Rattle.run_model.specs.Run.{World, Run, Answer}
 use Rattle.run_model.specs.ShadowMoves.{fetch_shadow, is_call_word, arrived, shadow_after, shadow_stores, shadow_step, word_counted}
-use Rattle.run_model.specs.OwnLaws.{Accepted}
+use Rattle.run_laws.specs.OwnLaws.{Accepted}
 use Rattle.machine_laws.specs.OneMachine.{space_of_run, shadow_effect, IsOfView}
 use Rattle.machine_laws.proofs.Fetches.{fetches_same}
 use Rattle.machine_laws.proofs.Steps.{steps_same}

@@ -13,7 +13,7 @@ use Rattle.rv_model.specs.Space.{Space, stub_stored, word_at}
 use Rattle.code_model.specs.Stub.{stub}
 use Rattle.run_model.specs.Run.{World, Run, Answer}
 use Rattle.run_model.specs.OwnMoves.{own_in, stub_after, stub_stores}
-use Rattle.run_model.specs.OwnLaws.{Accepted}
+use Rattle.run_laws.specs.OwnLaws.{Accepted}
 use Rattle.machine_laws.specs.OneMachine.{space_of_run, own_effect, IsOfView}
 use Rattle.machine_laws.proofs.Fetches.{fetches_same}
 use Rattle.machine_laws.proofs.Steps.{steps_same}

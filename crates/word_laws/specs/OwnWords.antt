@@ -14,7 +14,7 @@ use Rattle.code_model.specs.Places.{RESTART}
 use Rattle.code_model.specs.Stub.{stub}
 use Rattle.run_model.specs.Run.{World, Run, Answer, Traps}
 use Rattle.run_model.specs.OwnMoves.{own_in, done_one, ended, gate_step, since_restart, restart_notes}
-use Rattle.run_model.specs.OwnLaws.{Accepted}
+use Rattle.run_laws.specs.OwnLaws.{Accepted}
 use Rattle.machine_laws.specs.OneMachine.{space_of_run}
 use Rattle.hart_mem.specs.Held.{Held}
 use Rattle.hart_step.specs.Core.{Core}

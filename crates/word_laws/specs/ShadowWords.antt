@@ -7,7 +7,7 @@ use Rattle.rv_decode.specs.declared.instr.Instr.TheVariants.{Hkey, Hcall}
 use Rattle.rv_model.specs.Space.{Space}
 use Rattle.run_model.specs.Run.{World, Run, Answer}
 use Rattle.run_model.specs.ShadowMoves.{fetch_shadow, is_call_word, shadow_step, shadow_gate, arrived, parked, word_counted}
-use Rattle.run_model.specs.OwnLaws.{Accepted}
+use Rattle.run_laws.specs.OwnLaws.{Accepted}
 use Rattle.machine_laws.specs.OneMachine.{space_of_run}
 use Rattle.hart_mem.specs.Held.{Held}
 use Rattle.hart_step.specs.Core.{Core}
