@@ -16,7 +16,8 @@ fn the_lowest_of_two_that_are_never_needed_leaves(rt: HostRuntime) -> Result<(),
 }
 
 // Three blocks, and the first two of them again.
-const AGAIN: &[u8] = b"1 0 restart 61 4096 1\n2 0 restart 61 8192 1\n3 0 restart 61 12288 1\n4 0 restart 61 4096 1\n5 0 restart 61 8192 1\n";
+const AGAIN: &[u8] =
+    b"1 0 restart 61 4096 1\n2 0 restart 61 8192 1\n3 0 restart 61 12288 1\n4 0 restart 61 4096 1\n5 0 restart 61 8192 1\n";
 
 #[test]
 fn traces(rt: HostRuntime) -> Result<(), Fail> {
@@ -66,7 +67,10 @@ fn least_of_all(needs: &[u64], blocks: u64) -> u64 {
         }
         costs = next;
     }
-    costs.iter().copied().fold(1_000, |least, cost| least.min(cost))
+    costs
+        .iter()
+        .copied()
+        .fold(1_000, |least, cost| least.min(cost))
 }
 
 #[test]

@@ -44,10 +44,10 @@ impl Replay {
         requires depth { 1 ≤ depth }
         requires every { 1 ≤ every }
         ensures { IfOk result (λ replay. replay ≡ record {
-            settings = record { blocks = blocks; depth = depth; every = every };
-            now = fresh;
-            lines = 0;
-            failed = false;
+          settings = record { blocks = blocks; depth = depth; every = every };
+          now = fresh;
+          lines = 0;
+          failed = false;
         }) }
     {
         Ok(Replay {

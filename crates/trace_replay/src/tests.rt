@@ -4,16 +4,20 @@ use crate::{ReplayFault, Totals, replay_trace};
 use std::test::Fail;
 
 // A program that reads a file of 5,000 bytes, with a shadow that never moves.
-const READS: &[u8] = b"5 0 call 56 0 2097152 0 3\n10 0 restart 64617461 0 4096\n10 0 stall 64617461 0\n10 0 fetch 64617461 0\n11 0 call 63 3 2101248 4096 4096\n12 0 restart 64617461 4096 904\n12 0 stall 64617461 1\n12 0 fetch 64617461 1\n13 0 call 63 3 2101248 4096 904\n14 0 restart 64617461 5000 0\n15 0 call 63 3 2101248 4096 0\n17 0 exit 0\n";
+const READS: &[u8] =
+    b"5 0 call 56 0 2097152 0 3\n10 0 restart 64617461 0 4096\n10 0 stall 64617461 0\n10 0 fetch 64617461 0\n11 0 call 63 3 2101248 4096 4096\n12 0 restart 64617461 4096 904\n12 0 stall 64617461 1\n12 0 fetch 64617461 1\n13 0 call 63 3 2101248 4096 904\n14 0 restart 64617461 5000 0\n15 0 call 63 3 2101248 4096 0\n17 0 exit 0\n";
 
 // Three blocks, and the first two of them again.
-const AGAIN: &[u8] = b"1 0 restart 61 4096 1\n2 0 restart 61 8192 1\n3 0 restart 61 12288 1\n4 0 restart 61 4096 1\n5 0 restart 61 8192 1\n";
+const AGAIN: &[u8] =
+    b"1 0 restart 61 4096 1\n2 0 restart 61 8192 1\n3 0 restart 61 12288 1\n4 0 restart 61 4096 1\n5 0 restart 61 8192 1\n";
 
 // Three blocks are hinted, and then needed.
-const HINTED: &[u8] = b"1 0 hint 61 0 12288\n2 0 match 61 0 1\n1000000 0 match 61 4096 8192\n18446744073709551615 0 turns\n";
+const HINTED: &[u8] =
+    b"1 0 hint 61 0 12288\n2 0 match 61 0 1\n1000000 0 match 61 4096 8192\n18446744073709551615 0 turns\n";
 
 // A block that a hint comes for again is no more recent than before.
-const OLDER: &[u8] = b"0 0 match 61 0 1\n0 0 match 61 4096 1\n0 0 hint 61 0 1\n0 0 match 61 8192 1\n0 0 match 61 0 1\n";
+const OLDER: &[u8] =
+    b"0 0 match 61 0 1\n0 0 match 61 4096 1\n0 0 hint 61 0 1\n0 0 match 61 8192 1\n0 0 match 61 0 1\n";
 
 #[test]
 fn totals(rt: HostRuntime) -> Result<(), Fail> {
