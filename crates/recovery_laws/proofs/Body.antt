@@ -1,19 +1,19 @@
 -- The bodies of a rewritten file: the words of its text, and the bytes of its segments, put again.
-use Rattle.std.proofs.Common.{◌≡◌, ℕ, zero, suc, ◌+◌, ◌*◌, ◌-◌, ◌/◌, ◌%◌, ◌^◌, ◌==◌, ◌<◌, ◌≤◌, ◌&&◌, Bool, true, false, not, nat_lt, nat_le, cond, List, [], ◌∷◌, ◌++◌, length, map, take, drop, find, Option, Some, None, refl, sym, ap, subst, arith, ◌∙◌, length-append, append_assoc}
-use Rattle.std.specs.Prelude.{All, IsTrue, if◌then◌else◌}
+use Rattle.std.proofs.Common.{◌≡◌, ℕ, ◌+◌, ◌-◌, ◌/◌, ◌^◌, ◌<◌, ◌≤◌, Bool, true, false, cond, List, [], ◌∷◌, ◌++◌, length, map, take, drop, Some, refl, sym, ap, subst, arith, ◌∙◌, length-append, append_assoc}
+use Rattle.std.specs.Prelude.{All}
 use Rattle.std.proofs.lemmas.Bool.Decides.{nat_tests}
-use Rattle.std.proofs.lemmas.List.{length-take, length-drop, length-map, take_at, drop_at}
-use Rattle.std.proofs.lemmas.List.Elements.{All-head, All-tail, All-weaker}
+use Rattle.std.proofs.lemmas.List.{length-take, take_at, drop_at}
+use Rattle.std.proofs.lemmas.List.Elements.{All-head, All-tail}
 use Rattle.spec_base.specs.declared.layout.Layout.{Layout}
 use Rattle.elf_image.specs.declared.segments.Segment.{Segment}
 use Rattle.elf_image.specs.declared.image.Image.{Image}
 use Rattle.elf_image.specs.Segments.{is_code}
 use Rattle.elf_image.specs.Profile.{code_of}
-use Rattle.elf_image.specs.Image.{IsImage, IsPlaced, IsTextOf, words_at, words_in, file_place, text_words}
-use Rattle.elf_writer.specs.FileParts.{FilePart, segment_part, end_of_part, end_of_parts, file_offset, body_start, text_count}
+use Rattle.elf_image.specs.Image.{IsImage, words_at, words_in, text_words}
+use Rattle.elf_writer.specs.FileParts.{FilePart, segment_part, end_of_part, file_offset, body_start}
 use Rattle.elf_writer.specs.RewrittenFile.{HasWords, word_bytes, original_bytes, holds_text, patched_if, segment_bytes}
 use Rattle.elf_writer.specs.Places.{StandsAt, PartsStand}
-use Rattle.elf_writer.proofs.FileLemmas.{InFile, word_bytes-length, original-length, patched-length}
+use Rattle.elf_writer.proofs.FileLemmas.{InFile, word_bytes-length, original-length}
 use Rattle.recovery_laws.specs.Moved.{moved_segments, moved_image}
 use Rattle.recovery_laws.proofs.Standing.{StandsAt-front, StandsAt-back, takes-standing, words-back}
 

@@ -1,20 +1,19 @@
 -- The front of a rewritten file and the image that it carries, read back.
-use Rattle.std.proofs.Common.{◌≡◌, ℕ, zero, suc, ◌+◌, ◌*◌, ◌-◌, ◌/◌, ◌%◌, ◌^◌, ◌==◌, ◌<◌, ◌≤◌, ◌&&◌, ◌||◌, Bool, true, false, not, nat_lt, nat_le, List, [], ◌∷◌, ◌++◌, length, map, count_by, Option, Some, None, refl, sym, ap, subst, arith, ◌∙◌, length-append}
-use Rattle.std.specs.Prelude.{All, IsTrue, if◌then◌else◌}
+use Rattle.std.proofs.Common.{◌≡◌, ℕ, ◌+◌, ◌*◌, ◌-◌, ◌%◌, ◌^◌, ◌==◌, ◌<◌, ◌≤◌, ◌&&◌, ◌||◌, Bool, true, false, not, nat_lt, nat_le, List, [], ◌∷◌, length, map, count_by, Some, None, refl, sym, ap, subst, arith, ◌∙◌}
+use Rattle.std.specs.Prelude.{All}
 use Rattle.std.specs.List.{list_any}
 use Rattle.std.proofs.lemmas.Bool.Decides.{nat_tests}
 use Rattle.std.proofs.lemmas.List.{length-map}
-use Rattle.std.proofs.lemmas.List.Elements.{All-map, All-weaker, All-nil, All-cons, All-head, All-tail}
+use Rattle.std.proofs.lemmas.List.Elements.{All-nil, All-cons, All-head, All-tail}
 use Rattle.spec_base.specs.Layout.{range_start, image_limit, shadow_start}
 use Rattle.spec_base.specs.declared.layout.Layout.{Layout}
 use Rattle.spec_base.specs.declared.layout.Version.{Version}
 use Rattle.spec_base.specs.declared.layout.Version.TheVariants.{One, Two}
 use Rattle.elf_image.specs.declared.segments.Segment.{Segment}
 use Rattle.elf_image.specs.declared.image.Image.{Image}
-use Rattle.elf_image.specs.declared.recovery.Recovered.{Recovered}
 use Rattle.elf_image.specs.Fields.{half_at, word_at, xword_at}
 use Rattle.elf_image.specs.Header.{file_header, has_plain_flags}
-use Rattle.elf_image.specs.Segments.{Entry, program_header, first_entries, is_record, is_passed_over, segments_in, starts_early, are_misplaced, is_misplaced, is_code, highest_end}
+use Rattle.elf_image.specs.Segments.{Entry, first_entries, is_record, is_passed_over, segments_in, starts_early, are_misplaced, is_misplaced, is_code, highest_end}
 use Rattle.elf_image.specs.Sections.{is_text_of, is_entry_of}
 use Rattle.elf_image.specs.Profile.{code_of, rounded_up}
 use Rattle.elf_image.specs.Image.{IsImage, IsPlaced, opened_limit}
@@ -29,7 +28,7 @@ use Rattle.elf_writer.proofs.FileLemmas.{image_limit-few, file_offset-near, end_
 use Rattle.recovery_laws.specs.Moved.{moved_segments, moved_image}
 use Rattle.recovery_laws.proofs.Standing.{StandsAt-front, StandsAt-back, StandsAt-inside, reads-at, back2, back4, back8}
 use Rattle.recovery_laws.proofs.Entries.{as_read, FitsFields, FitsEntry, entry-back, read_entries, entries-back, entries_from-append}
-use Rattle.recovery_laws.proofs.MovedSegments.{segments-back, none-passed_over, moved-length, moved-reach, moved-count, moved-text, moved-apart, segments-reach, cursor-grows}
+use Rattle.recovery_laws.proofs.MovedSegments.{segments-back, none-passed_over, moved-reach, moved-count, moved-text, moved-apart, segments-reach}
 
 -- header, table and record of the rewritten file of an image stand in a file, which has the length that they tell
 pub record HasFront (bytes : List ℕ) (image : Image) (l : Layout) (file : List ℕ) : Type 0 where

@@ -1,13 +1,12 @@
 -- Segments that were moved to other offsets: what of them stays, and how far they reach.
-use Rattle.std.proofs.Common.{◌≡◌, ℕ, zero, suc, ◌+◌, ◌*◌, ◌-◌, ◌%◌, ◌^◌, ◌==◌, ◌<◌, ◌≤◌, ◌&&◌, ◌||◌, Bool, true, false, not, nat_lt, max, cond, List, [], ◌∷◌, ◌++◌, length, map, find, count_by, Option, Some, None, refl, sym, ap, subst, arith, ◌∙◌}
-use Rattle.std.specs.Prelude.{All, AllPairs, if◌then◌else◌}
+use Rattle.std.proofs.Common.{◌≡◌, ℕ, suc, ◌+◌, ◌*◌, ◌==◌, ◌<◌, ◌≤◌, ◌&&◌, ◌||◌, Bool, true, false, not, nat_lt, max, cond, List, [], ◌∷◌, length, map, count_by, Option, Some, refl, sym, ap, arith, ◌∙◌}
+use Rattle.std.specs.Prelude.{All}
 use Rattle.std.specs.List.{list_any}
 use Rattle.std.proofs.lemmas.Bool.Decides.{nat_tests}
 use Rattle.std.proofs.lemmas.List.Elements.{All-head, All-tail}
 use Rattle.std.proofs.lemmas.List.Sums.{sum_by-append}
-use Rattle.spec_base.specs.declared.layout.Layout.{Layout}
 use Rattle.elf_image.specs.declared.segments.Segment.{Segment}
-use Rattle.elf_image.specs.Segments.{is_loaded, is_passed_over, segments_in, end_of, highest_end, is_misplaced, starts_early, are_misplaced, is_code}
+use Rattle.elf_image.specs.Segments.{is_passed_over, segments_in, end_of, highest_end, is_misplaced, starts_early, are_misplaced, is_code}
 use Rattle.elf_image.specs.Sections.{TextSpan, is_text_of}
 use Rattle.elf_image.specs.Profile.{code_of}
 use Rattle.elf_image.specs.Image.{IsPlaced}

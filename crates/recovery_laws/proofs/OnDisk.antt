@@ -1,9 +1,9 @@
 -- What the table of a rewritten file loads: the segments, and the parts of the shadow.
-use Rattle.std.proofs.Common.{◌≡◌, ℕ, zero, suc, ◌+◌, ◌*◌, ◌-◌, ◌/◌, ◌%◌, ◌^◌, ◌==◌, ◌<◌, ◌≤◌, ◌&&◌, ◌||◌, Bool, true, false, not, nat_lt, nat_le, cond, List, [], ◌∷◌, ◌++◌, length, map, find, filter, Option, Some, None, refl, sym, ap, subst, arith, ◌∙◌, length-append}
-use Rattle.std.specs.Prelude.{All, IsTrue, if◌then◌else◌}
+use Rattle.std.proofs.Common.{◌≡◌, ℕ, suc, ◌+◌, ◌*◌, ◌-◌, ◌/◌, ◌^◌, ◌==◌, ◌<◌, ◌≤◌, ◌&&◌, Bool, true, false, not, nat_lt, nat_le, cond, List, [], ◌∷◌, ◌++◌, length, map, find, filter, Option, Some, None, refl, sym, ap, subst, arith, ◌∙◌}
+use Rattle.std.specs.Prelude.{All}
 use Rattle.std.specs.List.{list_any}
 use Rattle.std.proofs.lemmas.Bool.Decides.{nat_tests}
-use Rattle.std.proofs.lemmas.List.{length-map, map-append}
+use Rattle.std.proofs.lemmas.List.{map-append}
 use Rattle.std.proofs.lemmas.List.Elements.{All-from_recursion, All-append, All-head, All-tail, filter-append}
 use Rattle.std.proofs.lemmas.List.Folds.{find-append}
 use Rattle.spec_base.specs.Layout.{shadow_start, helpers_start, helper_words, stub_start, stub_words, range_end, image_limit}
@@ -12,20 +12,18 @@ use Rattle.spec_base.specs.declared.layout.Version.{Version}
 use Rattle.spec_base.specs.declared.layout.Version.TheVariants.{One, Two}
 use Rattle.elf_image.specs.declared.segments.Segment.{Segment}
 use Rattle.elf_image.specs.declared.image.Image.{Image}
-use Rattle.elf_image.specs.Fields.{half_at, xword_at}
-use Rattle.elf_image.specs.Segments.{Entry, first_entries, entries, is_loaded, segment_of, segments_in, end_of, is_code, starts_early, is_misplaced}
+use Rattle.elf_image.specs.Fields.{half_at}
+use Rattle.elf_image.specs.Segments.{Entry, first_entries, entries, is_loaded, segment_of, segments_in, end_of, is_code, starts_early}
 use Rattle.elf_image.specs.Profile.{code_of}
-use Rattle.elf_image.specs.Image.{IsImage, IsPlaced, words_at, file_place}
-use Rattle.elf_image.proofs.TestLemmas.{or-false-both, find-passes, find-fails}
-use Rattle.elf_image.proofs.Passed.{IsNamed, HasPassed}
-use Rattle.elf_writer.specs.FileParts.{FilePart, FileEntry, part_entry, shadow_part, helpers_part, stub_part, shadow_parts, file_parts, table_bytes, entries_from, segment_part, end_of_part, end_of_parts, file_offset, body_start, text_count, record_entry}
-use Rattle.elf_writer.specs.Headers.{entry_bytes}
+use Rattle.elf_image.specs.Image.{IsPlaced, words_at}
+use Rattle.elf_image.proofs.TestLemmas.{or-false-both, find-fails}
+use Rattle.elf_writer.specs.FileParts.{FilePart, part_entry, shadow_part, helpers_part, stub_part, shadow_parts, file_parts, segment_part, end_of_part, end_of_parts, file_offset, body_start, text_count, record_entry}
 use Rattle.elf_writer.specs.RewrittenFile.{Code, word_bytes, segment_bytes, shadow_contents, contents}
 use Rattle.elf_writer.specs.Places.{StandsAt, PartsStand}
-use Rattle.elf_writer.proofs.FileLemmas.{image_limit-few, file_parts-length, shadow-short, lawful-HasText, HasText}
+use Rattle.elf_writer.proofs.FileLemmas.{image_limit-few, file_parts-length}
 use Rattle.recovery_laws.specs.Moved.{moved_segments}
 use Rattle.recovery_laws.specs.OnDisk.{holds_address, words_from, loaded_words, LoadsCode}
-use Rattle.recovery_laws.proofs.Standing.{StandsAt-back, words-back}
+use Rattle.recovery_laws.proofs.Standing.{words-back}
 use Rattle.recovery_laws.proofs.Entries.{as_read, read_entries, FitsEntry, entries-back, first-cons}
 use Rattle.recovery_laws.proofs.MovedSegments.{segments-back}
 use Rattle.recovery_laws.proofs.Front.{HasFront, few, order, phoff, phnum, record-is, cursor-first, text-few, all-fit, entries-stand}

@@ -1,25 +1,20 @@
 -- What `rewrite` puts is recovered as what it was made from.
-use Rattle.std.proofs.Common.{◌≡◌, ℕ, zero, suc, ◌+◌, ◌*◌, ◌-◌, ◌/◌, ◌%◌, ◌^◌, ◌==◌, ◌<◌, ◌≤◌, Bool, true, false, List, [], ◌∷◌, ◌++◌, length, map, Option, Some, None, Ok, refl, sym, ap, subst, arith, ◌∙◌}
-use Rattle.std.specs.Prelude.{All, IsTrue, if◌then◌else◌}
+use Rattle.std.proofs.Common.{◌≡◌, ℕ, ◌+◌, ◌*◌, ◌^◌, ◌<◌, ◌≤◌, List, [], ◌∷◌, ◌++◌, length, map, Ok, refl, sym, ap, subst, arith, ◌∙◌}
+use Rattle.std.specs.Prelude.{All}
 use Rattle.std.proofs.lemmas.Bool.Decides.{nat_tests}
-use Rattle.std.proofs.lemmas.List.{length-map}
-use Rattle.std.proofs.lemmas.List.Elements.{All-nil, All-cons, All-head, All-tail}
-use Rattle.spec_base.specs.Layout.{is_lawful, image_limit}
+use Rattle.std.proofs.lemmas.List.Elements.{All-cons, All-head, All-tail}
+use Rattle.spec_base.specs.Layout.{image_limit}
 use Rattle.spec_base.specs.declared.layout.Layout.{Layout}
 use Rattle.spec_base.specs.declared.layout.Version.{Version}
-use Rattle.rv_decode.specs.Fields.{opcode}
 use Rattle.code_model.specs.Patch.{patched_word}
-use Rattle.elf_image.specs.declared.segments.Segment.{Segment}
 use Rattle.elf_image.specs.declared.image.Image.{Image}
-use Rattle.elf_image.specs.declared.recovery.Recovered.{Recovered}
 use Rattle.elf_image.specs.Profile.{profile}
 use Rattle.elf_image.specs.Image.{IsImage, text_words}
-use Rattle.elf_image.specs.Recovery.{front_damage, carried}
 use Rattle.elf_image.proofs.Accepted.{IsImage-from_profile}
 use Rattle.elf_image.proofs.Passed.{HasPassed, IsNamed, passed, segments-named, word-below, text-below}
-use Rattle.elf_writer.specs.FileParts.{FilePart, body_start, file_parts, text_count, segment_part, shadow_parts, record_bytes, entries_from, body_from}
+use Rattle.elf_writer.specs.FileParts.{FilePart, body_start, text_count, segment_part, shadow_parts, record_bytes, entries_from, body_from}
 use Rattle.elf_writer.specs.Headers.{header_bytes, entry_bytes}
-use Rattle.elf_writer.specs.RewrittenFile.{Code, HasWords, IsRewritable, IsCodeOf, rewritten_file, contents, segment_bytes, shadow_contents, original_bytes}
+use Rattle.elf_writer.specs.RewrittenFile.{Code, HasWords, IsRewritable, IsCodeOf, rewritten_file, segment_bytes, shadow_contents, original_bytes}
 use Rattle.elf_writer.specs.ProgramCode.{code_of_text, ungated_word, rewritten_again}
 use Rattle.elf_writer.specs.Places.{StandsWhole}
 use Rattle.elf_writer.proofs.FileLemmas.{InFile, IsPlaced-InFile, rewritten-HasWords, rewritten_file-length}

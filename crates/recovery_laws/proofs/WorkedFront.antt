@@ -1,10 +1,9 @@
 -- The front of a worked file, read back: header, table and record of a text of three words at 0x10078, computed.
-use Rattle.std.proofs.Common.{◌≡◌, ℕ, true, false, List, [], ◌∷◌, ◌++◌, Some, refl}
+use Rattle.std.proofs.Common.{◌≡◌, ℕ, true, List, [], ◌∷◌, ◌++◌, Some, refl}
 use Rattle.spec_base.specs.declared.layout.Layout.{Layout}
 use Rattle.spec_base.specs.declared.layout.Version.{Version}
 use Rattle.spec_base.specs.declared.layout.Version.TheVariants.{One, Two}
 use Rattle.elf_image.specs.declared.image.Image.{Image}
-use Rattle.elf_image.specs.declared.segments.Segment.{Segment}
 use Rattle.elf_image.specs.declared.recovery.Part.TheVariants as part
 use Rattle.elf_image.specs.Recovery.{holds_front, recorded_layout, carried_segments, holds_image, front_damage}
 use Rattle.elf_writer.specs.Headers.{header_bytes}
