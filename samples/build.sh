@@ -9,7 +9,7 @@ if ! command -v $gcc > /dev/null || [ ! -d $picolibc ]; then
     exit 0
 fi
 mkdir -p out
-for name in search count sums; do
+for name in search count sums slice sections copy; do
     $gcc -march=rv64im -mabi=lp64 -mcmodel=medany -O2 -Wall -Wextra -isystem $picolibc/include \
         -nostdlib -static -o out/$name start.S calls.c $name.c \
         -L$picolibc/lib/rv64im/lp64 -lc -lgcc || exit 1

@@ -50,7 +50,7 @@ int main(int count, char **words)
     for (int i = 1; i < count; i++) {
         int file = open(words[i], O_RDONLY);
         if (file < 0) {
-            status = complain(words[i]);
+            status = complain(words[i], "cannot open");
             continue;
         }
         struct counts sum = count_file(file);

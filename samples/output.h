@@ -24,7 +24,7 @@ static void flush(void)
     gathered_bytes = 0;
 }
 
-static void put_bytes(const char *bytes, size_t count)
+static inline void put_bytes(const char *bytes, size_t count)
 {
     while (count > 0) {
         size_t room = sizeof gathered - gathered_bytes;
@@ -38,7 +38,7 @@ static void put_bytes(const char *bytes, size_t count)
     }
 }
 
-static void put_text(const char *text)
+static inline void put_text(const char *text)
 {
     put_bytes(text, strlen(text));
 }
@@ -54,10 +54,18 @@ static inline void put_number(unsigned long number)
     put_bytes(digits + at, sizeof digits - at);
 }
 
-static int complain(const char *name)
+// Says of a file what is wrong with it, and answers the status for that.
+static inline int complain(const char *name, const char *what)
 {
     flush();
     write_whole(2, name, strlen(name));
-    write_whole(2, ": cannot open\n", 14);
+    write_whole(2, ": ", 2);
+    write_whole(2, what, strlen(what));
+    write_whole(2, "\n", 1);
     return 2;
+}
+
+static inline int usage(const char *words)
+{
+    return complain("usage", words);
 }

@@ -58,11 +58,11 @@ int main(int count, char **words)
     int found = 0;
     int status = 0;
     if (count < 3 || words[1][0] == 0)
-        return complain("search TEXT FILE..");
+        return usage("search TEXT FILE..");
     for (int i = 2; i < count; i++) {
         int file = open(words[i], O_RDONLY);
         if (file < 0) {
-            status = complain(words[i]);
+            status = complain(words[i], "cannot open");
             continue;
         }
         found |= search(words[i], file, words[1]);

@@ -15,18 +15,22 @@ fi
 work=$(mktemp -d) || exit 1
 trap 'rm -rf "$work"' EXIT
 
-# Files of no bytes, of a block, of more than a piece, and one that isn't there.
+# Files of no bytes, of a block, of more than a piece, one that isn't there, and a block of 20 * 30 * 40 bytes.
 : > "$work/empty"
 head -c 4096 /dev/zero | tr '\0' 'a' > "$work/block"
 seq 1 30000 > "$work/numbers"
 cp search.c "$work/source"
+seq 1 6000 | head -c 24000 > "$work/cube"
+cc -O2 -c -o "$work/object" search.c || exit 1
 
 differ=0
+runs=0
 compare() {
     name=$1
     shift
     (cd "$work" && "./$name" "$@" > own.out 2> own.err; echo $? > own.code)
     (cd "$work" && "$here/spechint" plain "$here/samples/out/$name" "$@" > plain.out 2> plain.err; echo $? > plain.code)
+    runs=$((runs + 1))
     for part in out err code; do
         if ! cmp -s "$work/own.$part" "$work/plain.$part"; then
             echo "compare_samples: $name $*: $part differs"
@@ -35,7 +39,7 @@ compare() {
     done
 }
 
-for name in search count sums; do
+for name in search count sums slice sections copy; do
     cc -O2 -o "$work/$name" "$name.c" || exit 1
 done
 compare search 99 numbers source empty
@@ -44,5 +48,14 @@ compare search int source absent
 compare count empty block numbers source
 compare count absent source
 compare sums empty block numbers source
-[ $differ = 0 ] && echo "compare_samples: all agree"
+compare slice cube 20 30 40 x 7
+compare slice cube 20 30 40 y 29
+compare slice cube 20 30 40 z 0
+compare slice cube 20 30 41 z 40
+compare slice cube 20 30 40 x 20
+compare sections object sections source absent
+compare copy "$(cksum < "$work/numbers" | cut -d ' ' -f 1)" numbers
+compare copy 1 numbers
+compare copy 1 absent
+[ $differ = 0 ] && echo "compare_samples: $runs runs, all agree"
 exit $differ
