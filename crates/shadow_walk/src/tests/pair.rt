@@ -29,7 +29,7 @@ pub fn memory_of(alloc: Global, layout: &Layout, text: &[u32]) -> Result<Mem, Fa
     }
     let shadow = blocks(alloc, text, layout)?;
     let mut mem = Mem::new(alloc, *layout, text.to_vec(alloc)?)?;
-    mem.set_code(shadow, helpers(alloc, layout)?, stub(alloc)?);
+    mem.set_code(shadow, helpers(alloc, layout)?, stub(alloc)?)?;
     Ok(mem)
 }
 
