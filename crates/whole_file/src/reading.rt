@@ -1,6 +1,6 @@
 //! The reading of a file.
 
-ghost use Rattle.std.specs.Prelude.{◌≡◌};
+ghost use Rattle.std.specs.Prelude.{◌≡◌, ◌≤◌, length, IfOk};
 ghost use Rattle.whole_file.specs.Reading.{ReadsWhole, mapped};
 
 use spec_base::Name;
@@ -27,7 +27,8 @@ pub enum ReadFault {
 /// order. The contract names each call on the store. What the bytes are is known where the store
 /// tells its files.
 pub fn read_whole<D: Store>(alloc: Global, name: &Name, store: &mut D) -> Result<Vec<u8>, ReadFault>
-    ensures { ReadsWhole (D.state store.old) name.now (mapped (λ v. v.items) result) (D.state store.new) }
+    ensures calls { ReadsWhole (D.state store.old) name.now (mapped (λ v. v.items) result) (D.state store.new) }
+    ensures few { IfOk result (λ v. length v.items ≤ 67_108_864) }
 {
     let size = match store.look(name) {
         Look::Found(size) => size,

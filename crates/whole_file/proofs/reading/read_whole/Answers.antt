@@ -2,16 +2,16 @@ use Rattle.std.proofs.Common.{refl, rules, arith, take, ◌≡◌, ◌+◌, ◌+
 use Rattle.whole_file.proofs.Steps.{failed_look-ReadsWhole, starved-ReadsWhole, found-ReadLog, got-ReadLog, failed_fetch-ReadsWhole, whole-ReadsWhole}
 use Rattle.whole_file.proofs.reading.read_whole.Goals as goal
 
-pub returns-in-Failed : goal.returns-in-Failed
-returns-in-Failed g c =
+pub returns-in-Failed-clause-calls : goal.returns-in-Failed-clause-calls
+returns-in-Failed-clause-calls g c =
     failed_look-ReadsWhole _ _ _ c.in-Failed.ensures.keeps (c.in-Failed.ensures.failed refl) c.in-Failed.ensures.number
 
-pub returns-in_default : goal.returns-in_default
-returns-in_default g c =
+pub returns-in_default-clause-calls : goal.returns-in_default-clause-calls
+returns-in_default-clause-calls g c =
     starved-ReadsWhole _ _ c.args.name.now c.in-Found.size (found-ReadLog _ _ c.args.name.now c.in-Found.size c.in-Found.ensures.keeps c.in-Found.ensures.number c.in-Found.ensures.told) (search rules)
 
-pub returns-in-Failed-fetch : goal.returns-in-Failed-fetch
-returns-in-Failed-fetch g c =
+pub returns-in-Failed-fetch-clause-calls : goal.returns-in-Failed-fetch-clause-calls
+returns-in-Failed-fetch-clause-calls g c =
     failed_fetch-ReadsWhole _ _ _ c.args.name.now c.in-Found.size c.loop-block.block _ c.loop-block.invariant.log
     c.in-Failed-fetch.ensures.keeps (c.in-Failed-fetch.ensures.failed refl) c.in-Failed-fetch.ensures.number (search rules) (search rules)
 
