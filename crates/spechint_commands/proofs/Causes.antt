@@ -16,6 +16,7 @@ use Rattle.command_words.specs.declared.request.Request.{Request}
 use Rattle.plain_runner.specs.Runs.{Outside, CallsStore, FailedPuts}
 use Rattle.plain_runner.specs.declared.ending.Ending.TheVariants as ending
 use Rattle.spechint_commands.specs.Texts.{text_of}
+use Rattle.spechint_commands.specs.Lines.{replay_line, plan_line}
 use Rattle.spechint_commands.specs.Top.{IsOutcome, CommandTo, Accepted, Tells, TellsAlone, image_name, asked_program}
 use Rattle.spechint_commands.specs.declared.status.Status.{Status}
 use Rattle.spechint_commands.specs.declared.status.Status.TheVariants.{Usage, NotBuilt, Absent, StoreFault, SinkFault, NoMemory}
@@ -61,8 +62,8 @@ store_fault_in Rewrite r old new stopped = failed_read old.store new.store (imag
 store_fault_in Run r old new h = absurd (let e : StoreFault ≡ NotBuilt = h.0 in cc)
 store_fault_in Trace r old new h = absurd (let e : StoreFault ≡ NotBuilt = h.0 in cc)
 store_fault_in Demo r old new h = absurd (let e : StoreFault ≡ NotBuilt = h.0 in cc)
-store_fault_in Replay r old new h = absurd (let e : StoreFault ≡ NotBuilt = h.0 in cc)
-store_fault_in Plan r old new h = absurd (let e : StoreFault ≡ NotBuilt = h.0 in cc)
+store_fault_in Replay r old new stopped = failed_read old.store new.store (image_name r) stopped.0
+store_fault_in Plan r old new stopped = failed_read old.store new.store (image_name r) stopped.0
 
 store_fault_by : (o : Option Request) (old new : Outside) → ByMemory o StoreFault old new → Rose old.store.faults new.store.faults
 store_fault_by o old new (inl h) = absurd (let e : StoreFault ≡ NoMemory = h.0 in cc)
@@ -108,8 +109,8 @@ sink_fault_in Rewrite r old new h = inl (rose-PutsText old.out new.out _ h.2.2.p
 sink_fault_in Run r old new h = absurd (let e : SinkFault ≡ NotBuilt = h.0 in cc)
 sink_fault_in Trace r old new h = absurd (let e : SinkFault ≡ NotBuilt = h.0 in cc)
 sink_fault_in Demo r old new h = absurd (let e : SinkFault ≡ NotBuilt = h.0 in cc)
-sink_fault_in Replay r old new h = absurd (let e : SinkFault ≡ NotBuilt = h.0 in cc)
-sink_fault_in Plan r old new h = absurd (let e : SinkFault ≡ NotBuilt = h.0 in cc)
+sink_fault_in Replay r old new h = inl (rose-PutsText old.out new.out (replay_line h.1) h.4.0)
+sink_fault_in Plan r old new h = inl (rose-PutsText old.out new.out (plan_line h.2 r.options.blocks) h.6.0)
 
 -- what rose before the text was told has risen after it
 told_after : (old new : Outside) (err : SinkState) → SinkRose old (record new { err = err }) → err.faults ≤ new.err.faults → SinkRose old new
@@ -139,8 +140,8 @@ absent_in Rewrite r old new h = h.0.told
 absent_in Run r old new h = absurd (let e : Absent ≡ NotBuilt = h.0 in cc)
 absent_in Trace r old new h = absurd (let e : Absent ≡ NotBuilt = h.0 in cc)
 absent_in Demo r old new h = absurd (let e : Absent ≡ NotBuilt = h.0 in cc)
-absent_in Replay r old new h = absurd (let e : Absent ≡ NotBuilt = h.0 in cc)
-absent_in Plan r old new h = absurd (let e : Absent ≡ NotBuilt = h.0 in cc)
+absent_in Replay r old new h = h.0.told
+absent_in Plan r old new h = h.0.told
 
 absent_by : (o : Option Request) (old new : Outside) → ByMemory o Absent old new → IfSome o (λ r. Lacks r old.store)
 absent_by o old new (inl h) = absurd (let e : Absent ≡ NoMemory = h.0 in cc)
@@ -160,8 +161,8 @@ not_usage Rewrite r old new h = h
 not_usage Run r old new h = let e : Usage ≡ NotBuilt = h.0 in cc
 not_usage Trace r old new h = let e : Usage ≡ NotBuilt = h.0 in cc
 not_usage Demo r old new h = let e : Usage ≡ NotBuilt = h.0 in cc
-not_usage Replay r old new h = let e : Usage ≡ NotBuilt = h.0 in cc
-not_usage Plan r old new h = let e : Usage ≡ NotBuilt = h.0 in cc
+not_usage Replay r old new h = h
+not_usage Plan r old new h = h
 
 usage_by : (o : Option Request) (old new : Outside) → ByMemory o Usage old new → o ≡ None
 usage_by o old new (inl h) = absurd (let e : Usage ≡ NoMemory = h.0 in cc)

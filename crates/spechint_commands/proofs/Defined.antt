@@ -1,5 +1,5 @@
 -- The outcome where the store tells its files and no count rises.
-use Rattle.std.proofs.Common.{◌≡◌, ◌⊎◌, inl, inr, ℕ, ◌≤◌, Bool, true, false, nat_lt, List, [], length, arith, sym, ◌∙◌, ap, subst, refl, Some, None, Option, IfSome, Result, Ok, Err}
+use Rattle.std.proofs.Common.{◌≡◌, ◌⊎◌, inl, inr, ℕ, ◌≤◌, ◌<◌, Bool, true, false, nat_lt, List, [], length, arith, sym, ◌∙◌, ap, subst, refl, Some, None, Option, IfSome, Result, Ok, Err}
 use Rattle.std.proofs.lemmas.Bool.Decides.{nat_tests}
 use Rattle.spec_base.specs.Files.{Files}
 use Rattle.spec_base.specs.Layout.{file_limit}
@@ -22,11 +22,22 @@ use Rattle.command_words.specs.declared.command.Command.TheVariants.{Plain, Rewr
 use Rattle.command_words.specs.declared.request.Request.{Request}
 use Rattle.plain_runner.specs.Runs.{Outside, EndsBy, Agrees, FailedPuts}
 use Rattle.plain_runner.specs.declared.ending.Ending.TheVariants as ending
+use Rattle.spec_base.specs.declared.spot.BlockSpot.{BlockSpot}
+use Rattle.trace_text.specs.declared.trace_line.TraceLine.{TraceLine}
+use Rattle.trace_text.specs.Lines.{trace_in}
+use Rattle.trace_replay.specs.Replays.{fresh, replayed}
+use Rattle.trace_replay.specs.Totals.{totals_of}
+use Rattle.trace_replay.specs.Traces.{totals_by}
+use Rattle.trace_replay.specs.declared.totals.Totals.{Totals}
+use Rattle.fetch_plan.specs.Needs.{needed_blocks}
+use Rattle.fetch_plan.specs.Traces.{needs_by, HasLeast}
+use Rattle.fetch_plan.specs.declared.traces.PlanTotals.{PlanTotals}
 use Rattle.spechint_commands.specs.Texts.{text_of}
-use Rattle.spechint_commands.specs.Top.{Silent, Stopped, EndingStatus, Runs, Accepted, PlainTo, Rewrites, RewriteTo, CommandTo, IsOutcome, image_name}
-use Rattle.spechint_commands.specs.Defined.{EndsAs, IsPlainRun, ByProfile, BySize, ByFile, ByCommand, ByRequest, IsDefined, IsSteady}
+use Rattle.spechint_commands.specs.Lines.{replay_line, plan_line}
+use Rattle.spechint_commands.specs.Top.{Silent, Stopped, EndingStatus, Runs, Accepted, PlainTo, Rewrites, RewriteTo, ReadsTrace, PutsLine, settings_of, ReplayTo, PlanTo, CommandTo, IsOutcome, image_name}
+use Rattle.spechint_commands.specs.Defined.{EndsAs, IsPlainRun, ByProfile, BySize, ByFile, ByReplayed, ByNeeds, ByPlanned, ByTrace, ByTraceSize, ByTraceFile, ByCommand, ByRequest, IsDefined, IsSteady}
 use Rattle.spechint_commands.specs.declared.status.Status.{Status}
-use Rattle.spechint_commands.specs.declared.status.Status.TheVariants.{Done, Exited, Trapped, TurnsOver, Usage, NotBuilt, Absent, Refused, StoreFault, SinkFault, NoMemory}
+use Rattle.spechint_commands.specs.declared.status.Status.TheVariants.{Done, Exited, Trapped, TurnsOver, Usage, NotBuilt, Absent, Refused, BadLine, TooMany, StoreFault, SinkFault, NoMemory}
 use Rattle.spechint_commands.proofs.Causes.{ByMemory, SinkRose, failed_read, failed_run, put_failed}
 
 -- ---- runs
@@ -63,6 +74,8 @@ run-IsPlainRun p files turns status old new e end h =
     no_faults Done is gives = absurd is
     no_faults Usage is gives = absurd is
     no_faults NotBuilt is gives = absurd is
+    no_faults (BadLine number) is gives = absurd is
+    no_faults TooMany is gives = absurd is
     no_faults Absent is gives = absurd is
     no_faults (Refused why) is gives = absurd is
     no_faults StoreFault is gives = absurd is
@@ -76,6 +89,8 @@ run-IsPlainRun p files turns status old new e end h =
     ends_as Done is gives t = absurd is
     ends_as Usage is gives t = absurd is
     ends_as NotBuilt is gives t = absurd is
+    ends_as (BadLine number) is gives t = absurd is
+    ends_as TooMany is gives t = absurd is
     ends_as Absent is gives t = absurd is
     ends_as (Refused why) is gives t = absurd is
     ends_as StoreFault is gives t = absurd is
@@ -155,6 +170,8 @@ by_status r files NoMemory old new e h s o w = inl refl
 by_status r files Done old new e h s o w = absurd h
 by_status r files Usage old new e h s o w = absurd h
 by_status r files NotBuilt old new e h s o w = absurd h
+by_status r files (BadLine number) old new e h s o w = absurd h
+by_status r files TooMany old new e h s o w = absurd h
 
 -- a rewritten file that was put whole
 put_whole : (r : Request) (files : Files) (n : ℕ) (old new : Outside) → old.store.files ≡ Some files → Rewrites r (rewritten.Done n) old new
@@ -180,6 +197,105 @@ by_rewrite r files (Trapped t pc) old new e h s o = absurd h
 by_rewrite r files (TurnsOver count) old new e h s o = absurd h
 by_rewrite r files Usage old new e h s o = absurd h
 by_rewrite r files NotBuilt old new e h s o = absurd h
+by_rewrite r files (BadLine number) old new e h s o = absurd h
+by_rewrite r files TooMany old new e h s o = absurd h
+
+-- ---- traces
+
+-- a trace that was read, by what its lines say
+read_trace : (c : Command) (r : Request) (files : Files) (bytes : List ℕ) (status : Status) (old new : Outside) → old.store.files ≡ Some files → ReadsTrace r bytes old new
+    → ByTrace c (trace_in bytes) r status old new → ByTraceFile c (files (image_name r)) r status old new
+read_trace c r files bytes status old new e whole by =
+    let told = told_of old.store new.store (image_name r) (Ok bytes) files e whole in
+    let few = told.1 in
+    let small : nat_lt file_limit (length bytes) ≡ false = grind (arith, nat_tests) in
+    subst (λ f. ByTraceFile c f r status old new) (sym told.0) (subst (λ b. ByTraceSize c b bytes r status old new) (sym small) by)
+
+-- a trace that is too long
+long_trace : (c : Command) (r : Request) (files : Files) (why : Refusal) (old new : Outside) → old.store.files ≡ Some files → Stopped r read.TooLong old new → why ≡ TooLong
+    → ByTraceFile c (files (image_name r)) r (Refused why) old new
+long_trace c r files why old new e stopped long =
+    let told = told_of old.store new.store (image_name r) (Err read.TooLong) files e stopped.0 in
+    let large : nat_lt file_limit (length told.0) ≡ true = (let more = told.2 in grind (arith, nat_tests)) in
+    subst (λ f. ByTraceFile c f r (Refused why) old new) (sym told.1)
+    (subst (λ b. ByTraceSize c b told.0 r (Refused why) old new) (sym large) (ap (λ w. Refused w) long, stopped.1))
+
+-- a trace that isn't there
+absent_trace : (c : Command) (r : Request) (files : Files) (old new : Outside) → old.store.files ≡ Some files → Stopped r read.Absent old new
+    → ByTraceFile c (files (image_name r)) r Absent old new
+absent_trace c r files old new e stopped =
+    let file = told_of old.store new.store (image_name r) (Err read.Absent) files e stopped.0 in
+    subst (λ f. ByTraceFile c f r Absent old new) (sym file) (refl, stopped.1)
+
+-- totals that were put are those of what the lines say
+replayed_lines : (r : Request) (said : Result (List TraceLine) ℕ) (totals : Totals) (old new : Outside) → totals_by (settings_of r) fresh said ≡ Ok totals
+    → PutsLine (replay_line totals) true old new → ByReplayed said r Done old new
+replayed_lines r (Err bad) totals old new same puts = cc
+replayed_lines r (Ok lines) totals old new same puts =
+    let is : totals ≡ totals_of (replayed (settings_of r) lines) = cc in
+    (refl, subst (λ t. PutsLine (replay_line t) true old new) is puts)
+
+-- `replay`, status by status
+by_replay : (r : Request) (files : Files) (status : Status) (old new : Outside) → old.store.files ≡ Some files → ReplayTo r status old new
+    → Steady old.store.faults new.store.faults → Steady old.out.faults new.out.faults
+    → (status ≡ NoMemory) ⊎ ByTraceFile Replay (files (image_name r)) r status old new
+by_replay r files Done old new e (bytes, totals, whole, same, puts) s o =
+    inr (read_trace Replay r files bytes Done old new e whole (replayed_lines r (trace_in bytes) totals old new same puts))
+by_replay r files (BadLine n) old new e (bytes, whole, bad, silent) s o =
+    inr (read_trace Replay r files bytes (BadLine n) old new e whole (subst (λ said. ByReplayed said r (BadLine n) old new) (sym bad) (refl, silent)))
+by_replay r files Absent old new e h s o = inr (absent_trace Replay r files old new e h)
+by_replay r files (Refused why) old new e h s o = inr (long_trace Replay r files why old new e h.0 h.1)
+by_replay r files StoreFault old new e h s o = absurd (clash old.store.faults new.store.faults (failed_read old.store new.store (image_name r) h.0) s)
+by_replay r files SinkFault old new e h s o = absurd (clash old.out.faults new.out.faults (rose-PutsText old.out new.out (replay_line h.1) h.4.0) o)
+by_replay r files NoMemory old new e h s o = inl refl
+by_replay r files TooMany old new e h s o = absurd h
+by_replay r files (Exited c) old new e h s o = absurd h
+by_replay r files (Trapped t pc) old new e h s o = absurd h
+by_replay r files (TurnsOver count) old new e h s o = absurd h
+by_replay r files Usage old new e h s o = absurd h
+by_replay r files NotBuilt old new e h s o = absurd h
+
+-- the least number of fetches that was put is that of what the lines need
+planned_lines : (r : Request) (said : Result (List TraceLine) ℕ) (spots : List BlockSpot) (totals : PlanTotals) (old new : Outside) → needs_by [] said ≡ Ok spots
+    → HasLeast r.options.blocks spots totals → PutsLine (plan_line totals r.options.blocks) true old new → ByPlanned said r Done old new
+planned_lines r (Err bad) spots totals old new same least puts = cc
+planned_lines r (Ok lines) spots totals old new same least puts =
+    let is : spots ≡ needed_blocks lines = cc in
+    let few = least.few in
+    let small : nat_lt 4_000_000 (length spots) ≡ false = grind (arith, nat_tests) in
+    subst (λ k. ByNeeds (nat_lt 4_000_000 (length k)) k r Done old new) is
+    (subst (λ b. ByNeeds b spots r Done old new) (sym small) (refl, totals, least, puts))
+
+-- there are too many
+crowded_lines : (r : Request) (said : Result (List TraceLine) ℕ) (spots : List BlockSpot) (old new : Outside) → needs_by [] said ≡ Ok spots
+    → 4_000_000 < length spots → Silent old new → ByPlanned said r TooMany old new
+crowded_lines r (Err bad) spots old new same many silent = cc
+crowded_lines r (Ok lines) spots old new same many silent =
+    let is : spots ≡ needed_blocks lines = cc in
+    let large : nat_lt 4_000_000 (length spots) ≡ true = grind (arith, nat_tests) in
+    subst (λ k. ByNeeds (nat_lt 4_000_000 (length k)) k r TooMany old new) is
+    (subst (λ b. ByNeeds b spots r TooMany old new) (sym large) (refl, silent))
+
+-- `plan`, status by status
+by_plan : (r : Request) (files : Files) (status : Status) (old new : Outside) → old.store.files ≡ Some files → PlanTo r status old new
+    → Steady old.store.faults new.store.faults → Steady old.out.faults new.out.faults
+    → (status ≡ NoMemory) ⊎ ByTraceFile Plan (files (image_name r)) r status old new
+by_plan r files Done old new e (bytes, spots, totals, whole, same, least, puts) s o =
+    inr (read_trace Plan r files bytes Done old new e whole (planned_lines r (trace_in bytes) spots totals old new same least puts))
+by_plan r files (BadLine n) old new e (bytes, whole, bad, silent) s o =
+    inr (read_trace Plan r files bytes (BadLine n) old new e whole (subst (λ said. ByPlanned said r (BadLine n) old new) (sym bad) (refl, silent)))
+by_plan r files TooMany old new e (bytes, spots, whole, same, many, silent) s o =
+    inr (read_trace Plan r files bytes TooMany old new e whole (crowded_lines r (trace_in bytes) spots old new same many silent))
+by_plan r files Absent old new e h s o = inr (absent_trace Plan r files old new e h)
+by_plan r files (Refused why) old new e h s o = inr (long_trace Plan r files why old new e h.0 h.1)
+by_plan r files StoreFault old new e h s o = absurd (clash old.store.faults new.store.faults (failed_read old.store new.store (image_name r) h.0) s)
+by_plan r files SinkFault old new e h s o = absurd (clash old.out.faults new.out.faults (rose-PutsText old.out new.out (plan_line h.2 r.options.blocks) h.6.0) o)
+by_plan r files NoMemory old new e h s o = inl refl
+by_plan r files (Exited c) old new e h s o = absurd h
+by_plan r files (Trapped t pc) old new e h s o = absurd h
+by_plan r files (TurnsOver count) old new e h s o = absurd h
+by_plan r files Usage old new e h s o = absurd h
+by_plan r files NotBuilt old new e h s o = absurd h
 
 -- ---- commands
 
@@ -191,8 +307,8 @@ by_command Rewrite r files status old new e h s o w = by_rewrite r files status 
 by_command Run r files status old new e h s o w = inr h
 by_command Trace r files status old new e h s o w = inr h
 by_command Demo r files status old new e h s o w = inr h
-by_command Replay r files status old new e h s o w = inr h
-by_command Plan r files status old new e h s o w = inr h
+by_command Replay r files status old new e h s o w = by_replay r files status old new e h s o
+by_command Plan r files status old new e h s o w = by_plan r files status old new e h s o
 
 -- ---- the text is whole
 
@@ -219,6 +335,8 @@ later_err r NoMemory old new (inr a) = run_later_err r _ old new a
 later_err r Done old new h = absurd h
 later_err r Usage old new h = absurd h
 later_err r NotBuilt old new h = absurd h
+later_err r (BadLine number) old new h = absurd h
+later_err r TooMany old new h = absurd h
 
 -- rewriting puts nothing on standard error
 rewrite_err : (r : Request) (status : Status) (old new : Outside) → RewriteTo r status old new → new.err ≡ old.err
@@ -235,6 +353,42 @@ rewrite_err r (Trapped t pc) old new h = absurd h
 rewrite_err r (TurnsOver count) old new h = absurd h
 rewrite_err r Usage old new h = absurd h
 rewrite_err r NotBuilt old new h = absurd h
+rewrite_err r (BadLine number) old new h = absurd h
+rewrite_err r TooMany old new h = absurd h
+
+-- nor does replaying a trace
+replay_err : (r : Request) (status : Status) (old new : Outside) → ReplayTo r status old new → new.err ≡ old.err
+replay_err r Done old new h = h.4.1
+replay_err r SinkFault old new h = h.4.1
+replay_err r (BadLine number) old new h = h.3.1
+replay_err r Absent old new h = h.1.1
+replay_err r (Refused why) old new h = h.0.1.1
+replay_err r StoreFault old new h = h.1.1
+replay_err r NoMemory old new (inl stopped) = stopped.1.1
+replay_err r NoMemory old new (inr h) = h.2.1
+replay_err r TooMany old new h = absurd h
+replay_err r (Exited c) old new h = absurd h
+replay_err r (Trapped t pc) old new h = absurd h
+replay_err r (TurnsOver count) old new h = absurd h
+replay_err r Usage old new h = absurd h
+replay_err r NotBuilt old new h = absurd h
+
+-- nor planning for one
+plan_err : (r : Request) (status : Status) (old new : Outside) → PlanTo r status old new → new.err ≡ old.err
+plan_err r Done old new h = h.6.1
+plan_err r SinkFault old new h = h.6.1
+plan_err r (BadLine number) old new h = h.3.1
+plan_err r TooMany old new h = h.5.1
+plan_err r Absent old new h = h.1.1
+plan_err r (Refused why) old new h = h.0.1.1
+plan_err r StoreFault old new h = h.1.1
+plan_err r NoMemory old new (inl stopped) = stopped.1.1
+plan_err r NoMemory old new (inr h) = h.2.1
+plan_err r (Exited c) old new h = absurd h
+plan_err r (Trapped t pc) old new h = absurd h
+plan_err r (TurnsOver count) old new h = absurd h
+plan_err r Usage old new h = absurd h
+plan_err r NotBuilt old new h = absurd h
 
 later_in : (c : Command) (r : Request) (status : Status) (old new : Outside) → CommandTo c r status old new → old.err.faults ≤ new.err.faults
 later_in Plain r status old new h = later_err r status old new h
@@ -242,8 +396,8 @@ later_in Rewrite r status old new h = (let same = ap (λ s. s.faults) (rewrite_e
 later_in Run r status old new h = silent_err old new h.1.1
 later_in Trace r status old new h = silent_err old new h.1.1
 later_in Demo r status old new h = silent_err old new h.1.1
-later_in Replay r status old new h = silent_err old new h.1.1
-later_in Plan r status old new h = silent_err old new h.1.1
+later_in Replay r status old new h = (let same = ap (λ s. s.faults) (replay_err r status old new h) in omega arith)
+later_in Plan r status old new h = (let same = ap (λ s. s.faults) (plan_err r status old new h) in omega arith)
 
 -- a text that was put while the count stood is whole
 whole_text : (a b c : SinkState) (text : List ℕ) (whole : Bool) → a.faults ≤ b.faults → PutsText b text whole c → Steady a.faults c.faults

@@ -8,9 +8,9 @@ use Rattle.rewriter.specs.declared.writing.Rewritten.{Rewritten}
 use Rattle.rewriter.specs.declared.writing.Rewritten.TheVariants as rewritten
 use Rattle.command_words.specs.declared.request.Request.{Request}
 use Rattle.plain_runner.specs.Runs.{Outside}
-use Rattle.spechint_commands.specs.Top.{FileRead, Silent, Accepted, PlainTo, RunsImage, Rewrites, RewrittenStatus, RewriteTo, image_name}
+use Rattle.spechint_commands.specs.Top.{FileRead, Silent, Accepted, PlainTo, RunsImage, Rewrites, RewrittenStatus, RewriteTo, ReplayTo, PlanTo, image_name}
 use Rattle.spechint_commands.specs.declared.status.Status.{Status}
-use Rattle.spechint_commands.specs.declared.status.Status.TheVariants.{Done, Exited, Trapped, TurnsOver, Usage, NotBuilt, Absent, Refused, StoreFault, SinkFault, NoMemory}
+use Rattle.spechint_commands.specs.declared.status.Status.TheVariants.{Done, Exited, Trapped, TurnsOver, Usage, NotBuilt, Absent, Refused, BadLine, TooMany, StoreFault, SinkFault, NoMemory}
 
 -- a run of the image's program is an outcome of `plain`
 pub accepted-PlainTo : (r : Request) (status : Status) (old new : Outside) → Accepted r status old new → PlainTo r status old new
@@ -23,6 +23,8 @@ accepted-PlainTo r NoMemory old new a = inr a
 accepted-PlainTo r Done old new a = absurd a.ran.gives
 accepted-PlainTo r Usage old new a = absurd a.ran.gives
 accepted-PlainTo r NotBuilt old new a = absurd a.ran.gives
+accepted-PlainTo r (BadLine number) old new a = absurd a.ran.gives
+accepted-PlainTo r TooMany old new a = absurd a.ran.gives
 accepted-PlainTo r Absent old new a = absurd a.ran.gives
 accepted-PlainTo r (Refused why) old new a = absurd a.ran.gives
 
@@ -47,6 +49,8 @@ unread-PlainTo r NoMemory old new h silent = inl (inl (h, silent))
 unread-PlainTo r Done old new h silent = absurd h
 unread-PlainTo r Usage old new h silent = absurd h
 unread-PlainTo r NotBuilt old new h silent = absurd h
+unread-PlainTo r (BadLine number) old new h silent = absurd h
+unread-PlainTo r TooMany old new h silent = absurd h
 unread-PlainTo r SinkFault old new h silent = absurd h
 unread-PlainTo r (Exited code) old new h silent = absurd h
 unread-PlainTo r (Trapped cause pc) old new h silent = absurd h
@@ -61,10 +65,44 @@ unread-RewriteTo r NoMemory old new h silent = inl (h, silent)
 unread-RewriteTo r Done old new h silent = absurd h
 unread-RewriteTo r Usage old new h silent = absurd h
 unread-RewriteTo r NotBuilt old new h silent = absurd h
+unread-RewriteTo r (BadLine number) old new h silent = absurd h
+unread-RewriteTo r TooMany old new h silent = absurd h
 unread-RewriteTo r SinkFault old new h silent = absurd h
 unread-RewriteTo r (Exited code) old new h silent = absurd h
 unread-RewriteTo r (Trapped cause pc) old new h silent = absurd h
 unread-RewriteTo r (TurnsOver count) old new h silent = absurd h
+
+-- as an outcome of `replay`
+pub unread-ReplayTo : (r : Request) (status : Status) (old new : Outside) → FileRead r (Err status) old.store new.store → Silent old new → ReplayTo r status old new
+unread-ReplayTo r Absent old new h silent = (h, silent)
+unread-ReplayTo r (Refused why) old new h silent = ((h.0, silent), h.1)
+unread-ReplayTo r StoreFault old new h silent = (h, silent)
+unread-ReplayTo r NoMemory old new h silent = inl (h, silent)
+unread-ReplayTo r Done old new h silent = absurd h
+unread-ReplayTo r Usage old new h silent = absurd h
+unread-ReplayTo r NotBuilt old new h silent = absurd h
+unread-ReplayTo r SinkFault old new h silent = absurd h
+unread-ReplayTo r (BadLine number) old new h silent = absurd h
+unread-ReplayTo r TooMany old new h silent = absurd h
+unread-ReplayTo r (Exited code) old new h silent = absurd h
+unread-ReplayTo r (Trapped cause pc) old new h silent = absurd h
+unread-ReplayTo r (TurnsOver count) old new h silent = absurd h
+
+-- as an outcome of `plan`
+pub unread-PlanTo : (r : Request) (status : Status) (old new : Outside) → FileRead r (Err status) old.store new.store → Silent old new → PlanTo r status old new
+unread-PlanTo r Absent old new h silent = (h, silent)
+unread-PlanTo r (Refused why) old new h silent = ((h.0, silent), h.1)
+unread-PlanTo r StoreFault old new h silent = (h, silent)
+unread-PlanTo r NoMemory old new h silent = inl (h, silent)
+unread-PlanTo r Done old new h silent = absurd h
+unread-PlanTo r Usage old new h silent = absurd h
+unread-PlanTo r NotBuilt old new h silent = absurd h
+unread-PlanTo r SinkFault old new h silent = absurd h
+unread-PlanTo r (BadLine number) old new h silent = absurd h
+unread-PlanTo r TooMany old new h silent = absurd h
+unread-PlanTo r (Exited code) old new h silent = absurd h
+unread-PlanTo r (Trapped cause pc) old new h silent = absurd h
+unread-PlanTo r (TurnsOver count) old new h silent = absurd h
 
 -- ---- rewriting
 

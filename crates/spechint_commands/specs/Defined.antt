@@ -16,10 +16,19 @@ use Rattle.command_words.specs.CommandLine.{command_of}
 use Rattle.command_words.specs.declared.command.Command.{Command}
 use Rattle.command_words.specs.declared.command.Command.TheVariants.{Plain, Rewrite, Run, Trace, Demo, Replay, Plan}
 use Rattle.command_words.specs.declared.request.Request.{Request}
+use Rattle.spec_base.specs.declared.spot.BlockSpot.{BlockSpot}
+use Rattle.trace_text.specs.declared.trace_line.TraceLine.{TraceLine}
+use Rattle.trace_text.specs.Lines.{trace_in}
+use Rattle.trace_replay.specs.Replays.{replayed}
+use Rattle.trace_replay.specs.Totals.{totals_of}
+use Rattle.fetch_plan.specs.Needs.{needed_blocks}
+use Rattle.fetch_plan.specs.Traces.{HasLeast}
+use Rattle.fetch_plan.specs.declared.traces.PlanTotals.{PlanTotals}
 use Rattle.spechint_commands.specs.Texts.{text_of}
-use Rattle.spechint_commands.specs.Top.{Silent, Untouched, image_name, asked_program}
+use Rattle.spechint_commands.specs.Lines.{replay_line, plan_line}
+use Rattle.spechint_commands.specs.Top.{Silent, Untouched, PutsLine, settings_of, image_name, asked_program}
 use Rattle.spechint_commands.specs.declared.status.Status.{Status}
-use Rattle.spechint_commands.specs.declared.status.Status.TheVariants.{Done, Exited, Trapped, TurnsOver, Usage, NotBuilt, Absent, Refused, StoreFault, SinkFault, NoMemory}
+use Rattle.spechint_commands.specs.declared.status.Status.TheVariants.{Done, Exited, Trapped, TurnsOver, Usage, NotBuilt, Absent, Refused, BadLine, TooMany, StoreFault, SinkFault, NoMemory}
 
 -- ---- a program's run
 
@@ -36,6 +45,8 @@ EndsAs p files t turns n s (Refused why) = ⊥
 EndsAs p files t turns n s StoreFault = ⊥
 EndsAs p files t turns n s SinkFault = ⊥
 EndsAs p files t turns n s NoMemory = ⊥
+EndsAs p files t turns n s (BadLine number) = ⊥
+EndsAs p files t turns n s TooMany = ⊥
 
 -- the plain program runs over the told files, for all counts that agree with what the sinks took; what it put is what they took, and its end is the status
 pub record IsPlainRun (p : Program) (files : Files) (turns : ℕ) (status : Status) (old new : Outside) : Type 0 where
@@ -78,6 +89,42 @@ abbrev pub ByFile : Command → Option (List ℕ) → Files → Request → Stat
 ByFile c None files r status old new = (status ≡ Absent) × Silent old new
 ByFile c (Some bytes) files r status old new = BySize c (nat_lt file_limit (length bytes)) files bytes r status old new
 
+-- ---- traces
+
+-- a replay, by what the lines say
+abbrev pub ByReplayed : Result (List TraceLine) ℕ → Request → Status → Outside → Outside → Type 0
+ByReplayed (Err n) r status old new = (status ≡ BadLine n) × Silent old new
+ByReplayed (Ok lines) r status old new = (status ≡ Done) × PutsLine (replay_line (totals_of (replayed (settings_of r) lines))) true old new
+
+-- a plan for needs, by whether they are too many
+abbrev pub ByNeeds : Bool → List BlockSpot → Request → Status → Outside → Outside → Type 0
+ByNeeds true spots r status old new = (status ≡ TooMany) × Silent old new
+ByNeeds false spots r status old new =
+    (status ≡ Done) × (totals : PlanTotals) × HasLeast r.options.blocks spots totals × PutsLine (plan_line totals r.options.blocks) true old new
+
+-- a plan, by what the lines say
+abbrev pub ByPlanned : Result (List TraceLine) ℕ → Request → Status → Outside → Outside → Type 0
+ByPlanned (Err n) r status old new = (status ≡ BadLine n) × Silent old new
+ByPlanned (Ok lines) r status old new = ByNeeds (nat_lt 4_000_000 (length (needed_blocks lines))) (needed_blocks lines) r status old new
+
+-- a trace, by the command
+abbrev pub ByTrace : Command → Result (List TraceLine) ℕ → Request → Status → Outside → Outside → Type 0
+ByTrace Replay said r status old new = ByReplayed said r status old new
+ByTrace Plan said r status old new = ByPlanned said r status old new
+ByTrace other said r status old new = ⊥
+
+-- a trace that is too long is refused unread
+abbrev pub ByTraceSize : Command → Bool → List ℕ → Request → Status → Outside → Outside → Type 0
+ByTraceSize c true bytes r status old new = (status ≡ Refused TooLong) × Silent old new
+ByTraceSize c false bytes r status old new = ByTrace c (trace_in bytes) r status old new
+
+-- by whether there is such a trace
+abbrev pub ByTraceFile : Command → Option (List ℕ) → Request → Status → Outside → Outside → Type 0
+ByTraceFile c None r status old new = (status ≡ Absent) × Silent old new
+ByTraceFile c (Some bytes) r status old new = ByTraceSize c (nat_lt file_limit (length bytes)) bytes r status old new
+
+-- ---- all commands
+
 -- by the command
 abbrev pub ByCommand : Command → Files → Request → Status → Outside → Outside → Type 0
 ByCommand Plain files r status old new = ByFile Plain (files (image_name r)) files r status old new
@@ -85,8 +132,8 @@ ByCommand Rewrite files r status old new = ByFile Rewrite (files (image_name r))
 ByCommand Run files r status old new = (status ≡ NotBuilt) × Untouched old new
 ByCommand Trace files r status old new = (status ≡ NotBuilt) × Untouched old new
 ByCommand Demo files r status old new = (status ≡ NotBuilt) × Untouched old new
-ByCommand Replay files r status old new = (status ≡ NotBuilt) × Untouched old new
-ByCommand Plan files r status old new = (status ≡ NotBuilt) × Untouched old new
+ByCommand Replay files r status old new = ByTraceFile Replay (files (image_name r)) r status old new
+ByCommand Plan files r status old new = ByTraceFile Plan (files (image_name r)) r status old new
 
 -- by whether the words are a command line
 abbrev pub ByRequest : Option Request → Files → Status → Outside → Outside → Type 0

@@ -1,5 +1,5 @@
 -- What the top call does, status by status (this project's own).
-use Rattle.std.specs.Prelude.{◌≡◌, ◌⊎◌, ℕ, Bool, List, [], slice_index_or, Result, Ok, Err, MatchOption}
+use Rattle.std.specs.Prelude.{◌≡◌, ◌⊎◌, ℕ, ◌<◌, Bool, true, false, List, [], length, slice_index_or, Result, Ok, Err, MatchOption}
 use Rattle.world_io.specs.Outside.{StoreState, SinkState}
 use Rattle.world_io.specs.Texts.{PutsText}
 use Rattle.whole_file.specs.Reading.{ReadsWhole}
@@ -24,11 +24,19 @@ use Rattle.command_words.specs.CommandLine.{command_of}
 use Rattle.command_words.specs.declared.command.Command.{Command}
 use Rattle.command_words.specs.declared.command.Command.TheVariants.{Plain, Rewrite, Run, Trace, Demo, Replay, Plan}
 use Rattle.command_words.specs.declared.request.Request.{Request}
+use Rattle.spec_base.specs.declared.spot.BlockSpot.{BlockSpot}
+use Rattle.trace_text.specs.Lines.{trace_in}
+use Rattle.trace_replay.specs.Replays.{Settings}
+use Rattle.trace_replay.specs.Traces.{trace_totals}
+use Rattle.trace_replay.specs.declared.totals.Totals.{Totals}
+use Rattle.fetch_plan.specs.Traces.{trace_needs, HasLeast}
+use Rattle.fetch_plan.specs.declared.traces.PlanTotals.{PlanTotals}
 use Rattle.spechint_commands.specs.Texts.{text_of}
+use Rattle.spechint_commands.specs.Lines.{replay_line, plan_line}
 use Rattle.spechint_commands.specs.declared.status.Status.{Status}
-use Rattle.spechint_commands.specs.declared.status.Status.TheVariants.{Done, Exited, Trapped, TurnsOver, Usage, NotBuilt, Absent, Refused, StoreFault, SinkFault, NoMemory}
+use Rattle.spechint_commands.specs.declared.status.Status.TheVariants.{Done, Exited, Trapped, TurnsOver, Usage, NotBuilt, Absent, Refused, BadLine, TooMany, StoreFault, SinkFault, NoMemory}
 
--- ---- reading the image
+-- ---- reading the image or the trace
 
 -- nothing was put
 abbrev pub Silent : Outside → Outside → Type 0
@@ -38,11 +46,11 @@ Silent old new = (new.out ≡ old.out) × (new.err ≡ old.err)
 abbrev pub Untouched : Outside → Outside → Type 0
 Untouched old new = (new.store ≡ old.store) × Silent old new
 
--- the name of the image: the first word that a command acts on
+-- the name of the image or the trace: the first word that a command acts on
 abbrev pub image_name : Request → List ℕ
 image_name r = slice_index_or r.arguments 0 []
 
--- the reading of the image's file: its bytes, or the status that the command ends with
+-- the reading of the file: its bytes, or the status that the command ends with
 abbrev pub FileRead : Request → Result (List ℕ) Status → StoreState → StoreState → Type 0
 FileRead r (Ok bytes) old new = ReadsWhole old (image_name r) (Ok bytes) new
 FileRead r (Err Absent) old new = ReadsWhole old (image_name r) (Err read.Absent) new
@@ -51,7 +59,7 @@ FileRead r (Err StoreFault) old new = ReadsWhole old (image_name r) (Err read.Fa
 FileRead r (Err NoMemory) old new = ReadsWhole old (image_name r) (Err read.NoMemory) new
 FileRead r (Err other) old new = ⊥
 
--- the reading of the image came to a fault
+-- the reading of the file came to a fault
 abbrev pub Stopped : Request → ReadFault → Outside → Outside → Type 0
 Stopped r fault old new = ReadsWhole old.store (image_name r) (Err fault) new.store × Silent old new
 
@@ -80,6 +88,8 @@ EndingStatus end Usage = ⊥
 EndingStatus end NotBuilt = ⊥
 EndingStatus end Absent = ⊥
 EndingStatus end (Refused why) = ⊥
+EndingStatus end (BadLine n) = ⊥
+EndingStatus end TooMany = ⊥
 
 -- a program ran, and its run ended so
 pub record Runs (p : Program) (turns : ℕ) (status : Status) (old new : Outside) : Type 0 where
@@ -122,6 +132,8 @@ PlainTo r NoMemory old new = (Stopped r read.NoMemory old new ⊎ IsStarved r ol
 PlainTo r Done old new = ⊥
 PlainTo r Usage old new = ⊥
 PlainTo r NotBuilt old new = ⊥
+PlainTo r (BadLine n) old new = ⊥
+PlainTo r TooMany old new = ⊥
 
 -- ---- the command `rewrite`
 
@@ -151,6 +163,80 @@ RewriteTo r (Trapped cause pc) old new = ⊥
 RewriteTo r (TurnsOver count) old new = ⊥
 RewriteTo r Usage old new = ⊥
 RewriteTo r NotBuilt old new = ⊥
+RewriteTo r (BadLine n) old new = ⊥
+RewriteTo r TooMany old new = ⊥
+
+-- ---- the commands `replay` and `plan`
+
+-- the trace was read whole
+abbrev pub ReadsTrace : Request → List ℕ → Outside → Outside → Type 0
+ReadsTrace r bytes old new = ReadsWhole old.store (image_name r) (Ok bytes) new.store
+
+-- this line of the trace is its first bad one
+abbrev pub HasBadLine : Request → ℕ → Outside → Outside → Type 0
+HasBadLine r n old new = (bytes : List ℕ) × ReadsTrace r bytes old new × (trace_in bytes ≡ Err n) × Silent old new
+
+-- the trace was read whole, and there was no memory for what follows
+abbrev pub IsTraceStarved : Request → Outside → Outside → Type 0
+IsTraceStarved r old new = (bytes : List ℕ) × ReadsTrace r bytes old new × Silent old new
+
+-- a line was put on standard output, whole or up to a put that failed
+abbrev pub PutsLine : List ℕ → Bool → Outside → Outside → Type 0
+PutsLine line whole old new = PutsText old.out line whole new.out × (new.err ≡ old.err)
+
+-- the settings of a replay
+abbrev pub settings_of : Request → Settings
+settings_of r = record { blocks = r.options.blocks; depth = r.options.depth; every = r.options.every }
+
+-- the line with the totals of all lines of the trace was put
+abbrev pub Replays : Request → Bool → Outside → Outside → Type 0
+Replays r whole old new =
+    (bytes : List ℕ) × (totals : Totals) × ReadsTrace r bytes old new
+    × (trace_totals (settings_of r) bytes ≡ Ok totals) × PutsLine (replay_line totals) whole old new
+
+-- what a status says of the command `replay`
+abbrev pub ReplayTo : Request → Status → Outside → Outside → Type 0
+ReplayTo r Done old new = Replays r true old new
+ReplayTo r SinkFault old new = Replays r false old new
+ReplayTo r (BadLine n) old new = HasBadLine r n old new
+ReplayTo r Absent old new = Stopped r read.Absent old new
+ReplayTo r (Refused why) old new = Stopped r read.TooLong old new × (why ≡ TooLong)
+ReplayTo r StoreFault old new = Stopped r read.Failed old new
+ReplayTo r NoMemory old new = Stopped r read.NoMemory old new ⊎ IsTraceStarved r old new
+ReplayTo r TooMany old new = ⊥
+ReplayTo r (Exited code) old new = ⊥
+ReplayTo r (Trapped cause pc) old new = ⊥
+ReplayTo r (TurnsOver count) old new = ⊥
+ReplayTo r Usage old new = ⊥
+ReplayTo r NotBuilt old new = ⊥
+
+-- the line with the least number of fetches for all needs of the trace was put: some plan costs it, and every other at least as much
+abbrev pub Plans : Request → Bool → Outside → Outside → Type 0
+Plans r whole old new =
+    (bytes : List ℕ) × (spots : List BlockSpot) × (totals : PlanTotals) × ReadsTrace r bytes old new
+    × (trace_needs bytes ≡ Ok spots) × HasLeast r.options.blocks spots totals × PutsLine (plan_line totals r.options.blocks) whole old new
+
+-- all lines of the trace are good, and need more than 4,000,000 blocks
+abbrev pub HasTooMany : Request → Outside → Outside → Type 0
+HasTooMany r old new =
+    (bytes : List ℕ) × (spots : List BlockSpot) × ReadsTrace r bytes old new
+    × (trace_needs bytes ≡ Ok spots) × (4_000_000 < length spots) × Silent old new
+
+-- what a status says of the command `plan`
+abbrev pub PlanTo : Request → Status → Outside → Outside → Type 0
+PlanTo r Done old new = Plans r true old new
+PlanTo r SinkFault old new = Plans r false old new
+PlanTo r (BadLine n) old new = HasBadLine r n old new
+PlanTo r TooMany old new = HasTooMany r old new
+PlanTo r Absent old new = Stopped r read.Absent old new
+PlanTo r (Refused why) old new = Stopped r read.TooLong old new × (why ≡ TooLong)
+PlanTo r StoreFault old new = Stopped r read.Failed old new
+PlanTo r NoMemory old new = Stopped r read.NoMemory old new ⊎ IsTraceStarved r old new
+PlanTo r (Exited code) old new = ⊥
+PlanTo r (Trapped cause pc) old new = ⊥
+PlanTo r (TurnsOver count) old new = ⊥
+PlanTo r Usage old new = ⊥
+PlanTo r NotBuilt old new = ⊥
 
 -- ---- all commands
 
@@ -161,8 +247,8 @@ CommandTo Rewrite r status old new = RewriteTo r status old new
 CommandTo Run r status old new = (status ≡ NotBuilt) × Untouched old new
 CommandTo Trace r status old new = (status ≡ NotBuilt) × Untouched old new
 CommandTo Demo r status old new = (status ≡ NotBuilt) × Untouched old new
-CommandTo Replay r status old new = (status ≡ NotBuilt) × Untouched old new
-CommandTo Plan r status old new = (status ≡ NotBuilt) × Untouched old new
+CommandTo Replay r status old new = ReplayTo r status old new
+CommandTo Plan r status old new = PlanTo r status old new
 
 -- the text of a status was put on `err`, whole or up to a put that failed
 abbrev pub Tells : Status → List ℕ → SinkState → SinkState → Type 0

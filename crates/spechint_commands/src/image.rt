@@ -1,6 +1,6 @@
-//! The image that a command acts on.
+//! The image or trace that a command acts on.
 
-ghost use Rattle.std.specs.Prelude.{◌≡◌, ◌≤◌, ◌<◌, ℕ, length, map, string_bytes};
+ghost use Rattle.std.specs.Prelude.{◌≡◌, ◌≤◌, ◌<◌, ℕ, length, map, string_bytes, IfOk};
 ghost use Rattle.command_words.specs.Limits.{IsWithinLimits};
 ghost use Rattle.whole_file.specs.Reading.{mapped};
 ghost use Rattle.spechint_commands.specs.Top.{FileRead, image_name};
@@ -13,7 +13,7 @@ use std::alloc::Global;
 use whole_file::{ReadFault, read_whole};
 use world_io::Store;
 
-/// The word for the image.
+/// The word for the image or the trace.
 pub fn image_word<'a>(request: &'a Request) -> &'a [u8]
     ensures { result.now ≡ image_name request.now }
 {
@@ -23,14 +23,15 @@ pub fn image_word<'a>(request: &'a Request) -> &'a [u8]
     }
 }
 
-/// Reads the image's file whole, or says which status the command ends with.
+/// Reads the file whole, or says which status the command ends with.
 pub fn read_file<D: Store>(
     alloc: Global,
     request: &Request,
     store: &mut D,
 ) -> Result<Vec<u8>, Status>
     requires { IsWithinLimits request.now }
-    ensures { FileRead request.now (mapped (λ v. v.items) result) (D.state store.old) (D.state store.new) }
+    ensures read { FileRead request.now (mapped (λ v. v.items) result) (D.state store.old) (D.state store.new) }
+    ensures few { IfOk result (λ v. length v.items ≤ 67_108_864) }
 {
     let Some(name) = Name::new(image_word(request)) else {
         unreachable!()

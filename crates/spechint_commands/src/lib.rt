@@ -2,7 +2,10 @@
 #![tactic(auto)]
 
 mod image;
+mod lines;
 mod plain;
+mod plan;
+mod replay;
 mod rewrite;
 mod status;
 #[cfg(test)]

@@ -31,6 +31,10 @@ pub enum Status {
     Absent,
     /// The file isn't an image of the profile.
     Refused(Refusal),
+    /// The line of this number, from 1, is the first of the file that is no line of a trace.
+    BadLine(u64),
+    /// The lines of the trace need more than 4,000,000 blocks.
+    TooMany,
     /// The store failed.
     StoreFault,
     /// A sink failed.
@@ -40,13 +44,15 @@ pub enum Status {
 }
 
 impl Status {
-    /// The exit code: the program's own, or one from 119 on.
+    /// The exit code: the program's own, or one from 117 on.
     pub fn code(&self) -> u8
         ensures { result ≡ code_of self.now }
     {
         match self {
             Status::Done => 0,
             Status::Exited(code) => *code,
+            Status::TooMany => 117,
+            Status::BadLine(_) => 118,
             Status::Absent => 119,
             Status::Usage => 120,
             Status::Refused(_) => 121,
@@ -68,7 +74,7 @@ impl Status {
             Status::Usage => {
                 b"spechint: usage: spechint plain|rewrite|run|trace [OPTIONS] IMAGE [ARGS], or spechint demo N"
             }
-            Status::Refused(_) => b"spechint: ",
+            Status::Refused(_) | Status::BadLine(_) | Status::TooMany => b"spechint: ",
             Status::StoreFault => b"spechint: read fault",
             Status::NoMemory => b"spechint: out of memory",
             Status::Trapped(_, _) => b"spechint: trap ",
@@ -81,7 +87,7 @@ impl Status {
         ensures { result.now ≡ subject self.now name.now }
     {
         match self {
-            Status::Absent | Status::Refused(_) => name,
+            Status::Absent | Status::Refused(_) | Status::BadLine(_) | Status::TooMany => name,
             Status::Trapped(cause, _) => trap_text(*cause),
             _ => b"",
         }
@@ -92,6 +98,8 @@ impl Status {
     {
         match self {
             Status::Refused(_) => b": refused: E",
+            Status::BadLine(_) => b": bad line ",
+            Status::TooMany => b": too many needs",
             Status::Trapped(_, _) => b" at 0x",
             _ => b"",
         }
@@ -107,14 +115,15 @@ impl Status {
         }
     }
 
-    // How many instructions were completed where all turns are over, the number of a refusal, and
-    // else 0.
+    // How many instructions were completed where all turns are over, the number of a refusal
+    // or of a bad line, and else 0.
     fn count(&self) -> u64
         ensures { result ≡ count_of self.now }
     {
         match self {
             Status::TurnsOver(count) => *count,
             Status::Refused(why) => u64::from(why.number()),
+            Status::BadLine(number) => *number,
             _ => 0,
         }
     }
@@ -126,7 +135,7 @@ impl Status {
     {
         match self {
             Status::Trapped(_, _) => pc,
-            Status::TurnsOver(_) | Status::Refused(_) => count,
+            Status::TurnsOver(_) | Status::Refused(_) | Status::BadLine(_) => count,
             _ => b"",
         }
     }
@@ -243,7 +252,7 @@ fn put_seven<E: Sink>(
     put_five(err, third, fourth, fifth, sixth, seventh)
 }
 
-/// Puts the text of a status. A put that fails ends it. The name is the word for IMAGE.
+/// Puts the text of a status. A put that fails ends it. The name is the word for IMAGE or TRACE.
 pub fn tell<E: Sink>(status: &Status, name: &[u8], err: &mut E)
     ensures { Tells status.now name.now (E.state err.old) (E.state err.new) }
 {

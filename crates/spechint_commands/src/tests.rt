@@ -370,3 +370,59 @@ fn a_rewritten_file_is_put(rt: HostRuntime) -> Result<(), Fail> {
     assert_eq!(rt; told.status, Status::Usage);
     Ok(())
 }
+
+// Three blocks, and the first two of them again.
+const AGAIN: &[u8] = b"1 0 restart 61 4096 1\n2 0 restart 61 8192 1\n3 0 restart 61 12288 1\n4 0 restart 61 4096 1\n5 0 restart 61 8192 1\n";
+
+#[test]
+fn a_trace_is_replayed_and_planned(rt: HostRuntime) -> Result<(), Fail> {
+    let alloc = rt.alloc();
+    let rows = [
+        (
+            ["replay", "--blocks", "2", "w1"].as_slice(),
+            AGAIN,
+            Status::Done,
+            b"replay reads 5 needs 5 stalls 5 fetches 5\n".as_slice(),
+            b"".as_slice(),
+        ),
+        (
+            ["replay", "w1"].as_slice(),
+            b"",
+            Status::Done,
+            b"replay reads 0 needs 0 stalls 0 fetches 0\n",
+            b"",
+        ),
+        (
+            ["plan", "--blocks=2", "w1"].as_slice(),
+            AGAIN,
+            Status::Done,
+            b"plan needs 5 fetches 4 blocks 2\n",
+            b"",
+        ),
+        (
+            ["plan", "w1"].as_slice(),
+            b"1 0 turns\n1 0 turn\n",
+            Status::BadLine(2),
+            b"",
+            b"spechint: w1: bad line 2\n",
+        ),
+        (
+            ["replay", "w2"].as_slice(),
+            AGAIN,
+            Status::Absent,
+            b"",
+            b"spechint: cannot find w2\n",
+        ),
+    ];
+    for (words, trace, status, out, err) in rows {
+        let told = command(alloc, words, trace, b"", &[], &[])?;
+        assert_eq!(rt; told.status, status);
+        assert_eq!(rt; told.out.as_slice(), out);
+        assert_eq!(rt; told.err.as_slice(), err);
+    }
+    let told = command(alloc, &["plan", "w1"], AGAIN, b"", &[2], &[])?;
+    assert_eq!(rt; told.status, Status::StoreFault);
+    let told = command(alloc, &["plan", "w1"], AGAIN, b"", &[], &[1])?;
+    assert_eq!(rt; told.status, Status::SinkFault);
+    Ok(())
+}

@@ -9,6 +9,8 @@ ghost use Rattle.spechint_commands.specs.Top.{IsOutcome, CommandTo, image_name};
 
 use crate::image::image_word;
 use crate::plain::plain;
+use crate::plan::plan;
+use crate::replay::replay;
 use crate::rewrite::rewrite;
 use crate::status::{Status, tell};
 use command_words::{Command, Request, read_words};
@@ -31,8 +33,9 @@ fn command<D: Store, O: Sink, E: Sink>(
     match request.command {
         Command::Plain => plain(alloc, request, store, out, err),
         Command::Rewrite => rewrite(alloc, request, store, out),
-        Command::Run | Command::Trace | Command::Demo | Command::Replay | Command::Plan =>
-            Status::NotBuilt,
+        Command::Replay => replay(alloc, request, store, out),
+        Command::Plan => plan(alloc, request, store, out),
+        Command::Run | Command::Trace | Command::Demo => Status::NotBuilt,
     }
 }
 
@@ -62,7 +65,9 @@ fn outcome<D: Store, O: Sink, E: Sink>(
 }
 
 /// Does what the words of a command line say, over a store of files and two sinks: `plain` runs an
-/// image by itself, `rewrite` puts its rewritten file. The other commands aren't built yet.
+/// image by itself, `rewrite` puts its rewritten file, `replay` runs a
+/// cache again from a trace, and `plan` tells the fewest fetches for one. The other commands aren't built
+/// yet.
 pub fn spechint<D: Store, O: Sink, E: Sink>(
     alloc: Global,
     words: &[String],

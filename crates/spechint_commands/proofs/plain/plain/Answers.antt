@@ -18,7 +18,7 @@ returns-in-Err-NoMemory g c =
     let answer = subst (λ e. Answers (profile c.deref.result.now c.args.request.now.options.layout) (Err e)) c.in-Err-NoMemory.field-0-is c.in-Err-NoMemory.ensures.answer in
     let image = accepted_image (profile c.deref.result.now c.args.request.now.options.layout) answer in
     let accepted = subst (λ items. profile items c.args.request.now.options.layout ≡ Ok image.0) c.deref.ensures.value image.1 in
-    inl (inr (c.in-Ok.bytes.items, image.0, c.in-Ok.ensures, accepted, (refl, refl)))
+    inl (inr (c.in-Ok.bytes.items, image.0, c.in-Ok.ensures.read, accepted, (refl, refl)))
 
 pub returns : goal.returns
 returns g c =
@@ -30,4 +30,4 @@ returns g c =
     let after : Outside = record { store = g.D.Store.state c.run_image.new.store; out = g.O.Sink.state c.run_image.new.out; err = g.E.Sink.state c.run_image.new.err } in
     let accepted = subst (λ items. profile items r.options.layout ≡ Ok c.in-Ok-read_as.image) c.deref.ensures.value c.in-Ok-read_as.ensures.answer in
     let ran = subst (λ items. RunsImage r items c.in-Ok-read_as.image c.run_image.result (record outside { store = between }) after) c.deref-2.ensures.value c.run_image.ensures in
-    ran-PlainTo r bytes c.in-Ok-read_as.image c.run_image.result outside after between c.in-Ok.ensures accepted ran
+    ran-PlainTo r bytes c.in-Ok-read_as.image c.run_image.result outside after between c.in-Ok.ensures.read accepted ran
