@@ -29,13 +29,7 @@ pub fn replay<D: Store, O: Sink>(
         Err(status) => return status,
     };
     let options = &request.options;
-    let totals = match replay_trace(
-        alloc,
-        &bytes,
-        options.blocks,
-        options.depth,
-        options.every,
-    ) {
+    let totals = match replay_trace(alloc, &bytes, options.blocks, options.depth, options.every) {
         Ok(totals) => totals,
         Err(ReplayFault::BadLine(number)) => return Status::BadLine(number),
         Err(ReplayFault::NoMemory) => return Status::NoMemory,

@@ -372,7 +372,8 @@ fn a_rewritten_file_is_put(rt: HostRuntime) -> Result<(), Fail> {
 }
 
 // Three blocks, and the first two of them again.
-const AGAIN: &[u8] = b"1 0 restart 61 4096 1\n2 0 restart 61 8192 1\n3 0 restart 61 12288 1\n4 0 restart 61 4096 1\n5 0 restart 61 8192 1\n";
+const AGAIN: &[u8] =
+    b"1 0 restart 61 4096 1\n2 0 restart 61 8192 1\n3 0 restart 61 12288 1\n4 0 restart 61 4096 1\n5 0 restart 61 8192 1\n";
 
 #[test]
 fn a_trace_is_replayed_and_planned(rt: HostRuntime) -> Result<(), Fail> {
