@@ -1,5 +1,5 @@
 #!/bin/sh
-# Runs `spechint` on what isn't a file to be run and over outputs that fail, and compares statuses and texts
+# Runs `spechint` on what isn't a file to be run, and over outputs that fail, and compares statuses and texts
 # with what the README's table says: directories, files without rights, empty, cut off and too long ones, names
 # that are no text, a closed output, and a full disk. Use: tests/hostile_files.sh
 here=$(cd "$(dirname "$0")/.." && pwd)
@@ -44,7 +44,7 @@ wants 121 "spechint: long: refused: E1 TooLong" plain long
 wants 121 "spechint: whole: refused: E3 Magic" plain whole
 wants 119 "spechint: cannot find folder" rewrite folder
 wants 121 "spechint: long: refused: E1 TooLong" rewrite long
-wants 119 "spechint: cannot find m1/more" plain m1/more
+wants 122 "spechint: read fault" plain m1/more
 
 "$here/spechint" plain "$badname" > out 2> err
 got=$?
