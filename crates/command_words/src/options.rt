@@ -35,7 +35,7 @@ pub struct Options {
     pub blocks: u32,
     /// How many fetches the queue of a replay holds, 1 to 65,536; 64 by default.
     pub depth: u32,
-    /// How many reads of a replay stand between two fetches that finish; 1 by default.
+    /// How many instructions of the program a fetch takes in a replay, 1 to 10^15; 1 by default.
     pub every: u64,
 }
 

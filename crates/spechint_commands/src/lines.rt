@@ -1,25 +1,16 @@
 //! The lines that `replay` and `plan` put.
 
-ghost use Rattle.std.specs.Prelude.{◌≡◌, ◌++◌, decimal, IfOk, OnOk};
+ghost use Rattle.std.specs.Prelude.{◌≡◌, IfOk};
 ghost use Rattle.spechint_commands.specs.Lines.{replay_line, plan_line};
 
 use fetch_plan::PlanTotals;
-use itoa::Buffer;
 use spec_base::NoMemory;
 use std::alloc::Global;
 use trace_replay::Totals;
+use trace_text::push_count;
 
 /// No line of these has more bytes.
 const MOST_LENGTH: usize = 128;
-
-// Adds a label and a number.
-fn push_count(line: &mut Vec<u8>, label: &[u8], count: u64) -> Result<(), NoMemory>
-    ensures { OnOk result (line.new.items ≡ line.old.items ++ (label.now ++ decimal count)) }
-{
-    line.extend_from_slice(label)?;
-    line.extend_from_slice(Buffer::new().format(count).as_bytes())?;
-    Ok(())
-}
 
 /// The line of `replay`.
 pub fn replay_line(alloc: Global, totals: &Totals) -> Result<Vec<u8>, NoMemory>

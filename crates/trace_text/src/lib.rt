@@ -18,7 +18,7 @@ pub use laws::{
 };
 pub use lines::cut_line;
 pub use reading::parse_line;
-pub use reporting::{Counts, report};
+pub use reporting::{Counts, push_count, report};
 pub use trace_line::{TraceBody, TraceLine};
 pub use writing::{line, turns_line, use_line};
 

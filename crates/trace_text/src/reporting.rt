@@ -32,7 +32,8 @@ pub struct Counts {
 /// No report has more bytes.
 const MOST_LENGTH: usize = 256;
 
-fn push_count(line: &mut Vec<u8>, label: &[u8], count: u64) -> Result<(), NoMemory>
+/// Adds a label and a number.
+pub fn push_count(line: &mut Vec<u8>, label: &[u8], count: u64) -> Result<(), NoMemory>
     ensures { OnOk result (line.new.items ≡ line.old.items ++ (label.now ++ decimal count)) }
 {
     line.extend_from_slice(label)?;
