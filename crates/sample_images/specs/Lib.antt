@@ -1,0 +1,2 @@
+pub mod Executables
+pub mod Demos
