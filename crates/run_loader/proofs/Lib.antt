@@ -1,0 +1,2 @@
+pub mod FirstStates
+mod Undamaged
