@@ -4,7 +4,6 @@ use Rattle.std.proofs.lemmas.List.{length-map}
 use Rattle.spec_base.specs.Files.{Files}
 use Rattle.spec_base.specs.Layout.{is_lawful}
 use Rattle.rv_model.specs.Memory.{zeros}
-use Rattle.rv_model.specs.Space.{Space}
 use Rattle.program_model.specs.Loading.{start_memory}
 use Rattle.run_model.specs.Run.{World, opened_run}
 use Rattle.machine_laws.specs.OneMachine.{space_of_run}

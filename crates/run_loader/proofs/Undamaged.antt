@@ -1,9 +1,12 @@
 -- What reading a rewritten file back says of its first damage.
-use Rattle.std.proofs.Common.{◌≡◌, ℕ, List, Option, Some, None, Ok, Err, refl, ap, sym, subst, ◌∙◌}
+use Rattle.std.proofs.Common.{◌≡◌, ℕ, List, Option, Some, None, Ok, Err, All, refl, ◌∙◌}
 use Rattle.elf_image.specs.declared.recovery.Part.{Part}
 use Rattle.elf_image.specs.declared.recovery.Recovered.{Recovered}
-use Rattle.elf_image.specs.Recovery.{RecoversAs, IsRecovered, front_damage, carried}
+use Rattle.elf_image.specs.Recovery.{IsRecovered, front_damage, carried}
 use Rattle.elf_image.proofs.RecoveryLemmas.{IsRecovered-from}
+use Rattle.run_laws.specs.OwnLaws.{AllBytes}
+use Rattle.file_world.proofs.Loaded.{recovered_are_accepted}
+use Rattle.run_loader.specs.Opening.{LawsHold}
 use Rattle.rewritten_reader.specs.Damage.{earlier, body_damage, first_damage, recovered, recovered_unless}
 
 -- a file that is recovered has no damage, and carries what was recovered
@@ -35,3 +38,9 @@ pub recovered-is : (bytes : List ℕ) (r : Recovered) → recovered bytes ≡ Ok
 recovered-is bytes r e =
     let there = undamaged bytes r e in
     IsRecovered-from bytes r (undamaged-front bytes there.0, there.1)
+
+-- the laws of runs speak of what an undamaged file carries
+pub laws-hold : (bytes : List ℕ) (arguments : List (List ℕ)) → AllBytes bytes → All AllBytes arguments → first_damage bytes ≡ None
+    → LawsHold bytes (carried bytes) arguments
+laws-hold bytes arguments all words none files are =
+    recovered_are_accepted bytes (carried bytes) arguments files all (undamaged-front bytes none, refl) words are

@@ -4,11 +4,11 @@ ghost use Rattle.std.specs.Prelude.{◌≤◌, ◌+◌, length, map, string_byte
 ghost use Rattle.std.specs.List.{sum_by};
 ghost use Rattle.spec_base.specs.Layout.{is_lawful};
 ghost use Rattle.elf_image.specs.Image.{IsImage};
-ghost use Rattle.elf_image.specs.Recovery.{IsRecovered};
+ghost use Rattle.elf_image.specs.Recovery.{IsRecovered, carried};
 ghost use Rattle.elf_writer.specs.RewrittenFile.{IsCodeOf};
 ghost use Rattle.elf_writer.specs.Writing.{listed};
 ghost use Rattle.run_loader.specs.Loading.{Loads};
-ghost use Rattle.run_loader.specs.Opening.{OpensRecovered, OpensAs};
+ghost use Rattle.run_loader.specs.Opening.{OpensRecovered, LawsHold, OpensAs};
 
 use crate::parts::parts_again;
 use elf_image::{Part, RecoverFault, Recovered};
@@ -96,7 +96,8 @@ fn load_again(
 pub fn open(alloc: Global, file: &[u8], arguments: &[String]) -> Result<Opened, OpenFault>
     requires few { length arguments.now ≤ 64 }
     requires short { sum_by (λ word. length word + 1) (map string_bytes arguments.now) ≤ 65_536 }
-    ensures { OpensAs file.now (map string_bytes arguments.now) result }
+    ensures answer { OpensAs file.now (map string_bytes arguments.now) result }
+    ensures laws { IfOk result (λ _. LawsHold file.now (carried file.now) (map string_bytes arguments.now)) }
 {
     let recovered = match read_back(alloc, file) {
         Ok(recovered) => recovered,

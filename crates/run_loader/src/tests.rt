@@ -42,7 +42,10 @@ fn opened(alloc: Global, version: Version) -> Result<Opened, Fail> {
 
 /// Whether a word of a view's code is the one at a place of the file.
 fn is_in_file(opened: &Opened, file: &[u8], view: View, pc: u64, place: usize) -> bool {
-    match (opened.mem.fetch(view, pc), file.get(place..place.saturating_add(4))) {
+    match (
+        opened.mem.fetch(view, pc),
+        file.get(place..place.saturating_add(4)),
+    ) {
         (Some(word), Some(bytes)) => word.to_le_bytes().as_slice() == bytes,
         _ => false,
     }
@@ -101,7 +104,10 @@ fn has_its_argument(rt: HostRuntime) -> Result<(), Fail> {
             let stack = opened.hart.reg(Reg::from_low_bits(2));
             assert_eq!(rt; stack, 0x3FFF_FFC0);
             assert_eq!(rt; opened.mem.load(View::Program, stack, Width::Eight), Ok(1));
-            assert_eq!(rt; opened.mem.load(View::Program, 0x3FFF_FFFD, Width::One), Ok(97));
+            assert_eq!(rt;
+                opened.mem.load(View::Program, 0x3FFF_FFFD, Width::One),
+                Ok(97)
+            );
         }
         Err(_) => Err("not opened")?,
     }
