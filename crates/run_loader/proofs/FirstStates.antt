@@ -7,8 +7,6 @@ use Rattle.rv_model.specs.Memory.{zeros}
 use Rattle.program_model.specs.Loading.{start_memory}
 use Rattle.run_model.specs.Run.{World, opened_run}
 use Rattle.machine_laws.specs.OneMachine.{space_of_run}
-use Rattle.hart_mem.specs.Held.{space_of}
-use Rattle.hart_step.specs.Core.{Core}
 use Rattle.elf_image.specs.declared.recovery.Recovered.{Recovered}
 use Rattle.elf_image.specs.Image.{text_words}
 use Rattle.elf_image.specs.Recovery.{IsRecovered}
@@ -70,17 +68,8 @@ module _ (bytes : List ℕ) (parts : Parts) (arguments : List (List ℕ)) (files
 
   pub shows-first : (opened : Opened) → Loads bytes parts arguments opened → IsCodeAgain bytes parts → ShowsFirst w opened
   shows-first opened h code =
-      let space : space_of opened.mem ≡ space_of_run w (opened_run w) =
-      h.space ∙ space-first (holds-same w (opened_run w) (listed parts) (sym code)) in
       record {
-        own = record { view = refl; hart = h.hart; space = space };
-        shadow = record {
-          view = ap (λ (c : Core). c.view) h.shadow;
-          registers = ap (λ (c : Core). c.registers) h.shadow;
-          pc = ap (λ (c : Core). c.pc) h.shadow;
-          space = space;
-          state = refl;
-        };
+        own = record { view = refl; hart = h.hart; space = h.space ∙ space-first (holds-same w (opened_run w) (listed parts) (sym code)) };
         files = h.files;
         layout = h.layout;
       }

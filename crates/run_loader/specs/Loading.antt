@@ -1,7 +1,6 @@
 -- What loading the parts of a rewritten program comes to (this project's own).
 use Rattle.std.specs.Prelude.{◌≡◌, ℕ, List}
-use Rattle.spec_base.specs.declared.machine.View.TheVariants.{Program, Shadow}
-use Rattle.rv_model.specs.Registers.{all_zero}
+use Rattle.spec_base.specs.declared.machine.View.TheVariants.{Program}
 use Rattle.rv_model.specs.Space.{Space}
 use Rattle.program_model.specs.Loading.{Executable, start_state}
 use Rattle.elf_image.specs.declared.recovery.Recovered.{Recovered}
@@ -28,12 +27,11 @@ loaded_space bytes parts arguments =
       stub = parts.stub.items;
     }
 
--- the own hart is at the program's first instruction, and the shadow's was never started
+-- the own hart is at the program's first instruction
 pub record Loads (bytes : List ℕ) (parts : Parts) (arguments : List (List ℕ)) (opened : Opened) : Type 0 where
   pub space : space_of opened.mem ≡ loaded_space bytes parts arguments
   pub hart :
       core_of opened.hart ≡
       record { registers = (start_state (executable_from bytes parts) arguments).registers; pc = parts.image.entry; view = Program; site = 0 }
   pub files : opened.files ≡ (start_state (executable_from bytes parts) arguments).files
-  pub shadow : core_of opened.shadow ≡ record { registers = all_zero; pc = 0; view = Shadow; site = 0 }
   pub layout : opened.layout ≡ parts.layout

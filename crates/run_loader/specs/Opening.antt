@@ -2,14 +2,13 @@
 use Rattle.std.specs.Prelude.{◌≡◌, ℕ, List, Some, None, Result, Ok, Err}
 use Rattle.spec_base.specs.Files.{Files}
 use Rattle.spec_base.specs.declared.machine.View.TheVariants.{Program}
-use Rattle.spec_base.specs.declared.note.ShadowState.TheVariants.{Never}
 use Rattle.run_model.specs.Run.{World, opened_run}
 use Rattle.run_laws.specs.OwnLaws.{Accepted}
 use Rattle.elf_image.specs.declared.recovery.Recovered.{Recovered}
 use Rattle.elf_image.specs.Recovery.{front_damage, carried}
 use Rattle.hart_mem.specs.Held.{space_of}
 use Rattle.hart_step.specs.Core.{core_of}
-use Rattle.word_laws.specs.Shown.{ShowsOwn, ShowsIn}
+use Rattle.word_laws.specs.Shown.{ShowsOwn}
 use Rattle.rewritten_reader.specs.Damage.{first_damage}
 use Rattle.file_world.specs.Worlds.{AreFiles}
 use Rattle.file_world.specs.Promises.{world_again}
@@ -17,10 +16,9 @@ use Rattle.run_loader.specs.declared.opening.Opened.{Opened}
 use Rattle.run_loader.specs.declared.opening.OpenFault.{OpenFault}
 use Rattle.run_loader.specs.declared.opening.OpenFault.TheVariants.{Damaged, NoMemory}
 
--- memory, harts, descriptors and layout are those of a world's run before its first move, in which the shadow was never started
+-- memory, own hart, descriptors and layout are those of a world's run before its first move
 pub record ShowsFirst (w : World) (opened : Opened) : Type 0 where
   pub own : ShowsOwn Program w (opened_run w) (core_of opened.hart) (space_of opened.mem)
-  pub shadow : ShowsIn Never w (opened_run w) (core_of opened.shadow) (space_of opened.mem)
   pub files : opened.files ≡ (opened_run w).own.files
   pub layout : opened.layout ≡ w.image.layout
 

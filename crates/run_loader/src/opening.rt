@@ -21,7 +21,7 @@ use rewritten_reader::read_back;
 use spec_base::{Layout, NoMemory, View};
 use std::alloc::Global;
 
-/// A rewritten program before the first move of its run. Its shadow isn't running.
+/// A rewritten program before the first move of its run.
 #[derive(Drop)]
 pub struct Opened {
     /// The memory, with the code and the bytes of all views.
@@ -30,8 +30,6 @@ pub struct Opened {
     pub hart: Hart,
     /// The own descriptors and the break.
     pub files: Files,
-    /// The shadow's hart, in the Shadow view.
-    pub shadow: Hart,
     /// The layout.
     pub layout: Layout,
 }
@@ -69,7 +67,6 @@ fn load_parts(
         mem,
         hart: process.hart,
         files: process.files,
-        shadow: Hart::new(0, View::Shadow),
         layout,
     })
 }

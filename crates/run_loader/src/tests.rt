@@ -85,7 +85,6 @@ fn starts_at_the_entry(rt: HostRuntime) -> Result<(), Fail> {
         assert_eq!(rt; opened.hart.pc(), 0x1_0078);
         assert_eq!(rt; opened.hart.view(), View::Program);
         assert_eq!(rt; opened.hart.reg(Reg::from_low_bits(2)), stack);
-        assert_eq!(rt; opened.shadow.view(), View::Shadow);
     }
     Ok(())
 }
