@@ -1,0 +1,3 @@
+pub mod FirstStates
+mod Undamaged
+pub mod Texts
