@@ -1,0 +1,184 @@
+-- Marks and uses along the run from a restart rest on the restart, and on the numbers of filled reads so far.
+use Rattle.std.proofs.Common.{Some, None, ◌≡◌, ℕ, zero, suc, ◌<◌, ◌≤◌, Bool, true, false, not, ◌&&◌, ◌||◌, List, [], ◌∷◌, ◌++◌, Option, refl, sym, ◌∙◌, ap, ap₂, arith, ◌==◌}
+use Rattle.std.specs.Option.{option_and_then}
+use Rattle.std.proofs.lemmas.Bool.Decides.{nat_tests}
+use Rattle.std.proofs.lemmas.List.Folds.{list_any-append}
+use Rattle.spec_base.specs.Listed.{is_listed}
+use Rattle.spec_base.specs.Files.{Files}
+use Rattle.spec_base.specs.declared.machine.View.TheVariants.{Plain}
+use Rattle.rv_decode.specs.declared.instr.Instr.{Instr}
+use Rattle.rv_decode.specs.declared.instr.Instr.TheVariants.{Lui, Auipc, Jal, Jalr, Branch, Load, Store, OpImm, OpImmW, Op, OpW, Fence, Ecall, Ebreak, Hgate, Hleave, Hsite, Hkey, Hstop, Hrestart, Hcall, Hpark, Illegal}
+use Rattle.rv_decode.specs.declared.instr.LoadOp.{LoadOp}
+use Rattle.rv_model.specs.Memory.{Memory}
+use Rattle.rv_model.specs.Registers.{Registers}
+use Rattle.rv_model.specs.Rights.{is_data, data_rights}
+use Rattle.rv_model.specs.Effect.{effect, load_if, store_if}
+use Rattle.use_marks.specs.Passing.{touches_data}
+use Rattle.program_model.specs.PlainRun.{Image, Taken, completed, after_effect, at_word, next_unless, next_state, State, state_after, all_taken}
+use Rattle.run_model.specs.Run.{World, Run}
+use Rattle.run_model.specs.Restarts.{from_restart, instr_at}
+use Rattle.run_model.specs.Marks.{is_use, Marks, marks_after, marks_after_some, marks_with, some_use, before_use_with}
+use Rattle.use_marks.specs.Told.{numbers_after, StartIsTold, NextIsTold, ToldIsKept, FirstUseIsTold, NextHasData, ToldIsOfRun}
+
+-- ---- numbers
+
+-- a number behind others
+listed_append : (numbers : List ℕ) (k n : ℕ) → is_listed (numbers ++ k ∷ []) n ≡ (is_listed numbers n || (k == n))
+listed_append numbers k n = list_any-append (λ (m : ℕ). m == n) numbers (k ∷ []) ∙ last (is_listed numbers n) (k == n)
+  where
+    last : (b c : Bool) → (b || (c || false)) ≡ (b || c)
+    last true c = refl
+    last false true = refl
+    last false false = refl
+
+listed_other : (numbers : List ℕ) (k n : ℕ) → (k == n) ≡ false → is_listed (numbers ++ k ∷ []) n ≡ is_listed numbers n
+listed_other numbers k n e = listed_append numbers k n ∙ no_more (is_listed numbers n) (k == n) e
+  where
+    no_more : (a b : Bool) → b ≡ false → (a || b) ≡ a
+    no_more true b e = refl
+    no_more false b e = e
+
+listed_last : (numbers : List ℕ) (k : ℕ) → is_listed (numbers ++ k ∷ []) k ≡ true
+listed_last numbers k = listed_append numbers k k ∙ some (is_listed numbers k) (k == k) (grind (arith, nat_tests))
+  where
+    some : (a b : Bool) → b ≡ true → (a || b) ≡ true
+    some true b e = refl
+    some false b e = e
+
+-- the numbers up to i stay, and i + 1 is listed where it was filled
+pub after_earlier : (numbers : List ℕ) (i n : ℕ) (filled : Bool) → n ≤ i → is_listed (numbers_after numbers i filled) n ≡ is_listed numbers n
+after_earlier numbers i n true h = listed_other numbers (suc i) n (grind (arith, nat_tests))
+after_earlier numbers i n false h = refl
+
+pub after_here : (numbers : List ℕ) (i : ℕ) (filled : Bool) → is_listed numbers (suc i) ≡ false → is_listed (numbers_after numbers i filled) (suc i) ≡ filled
+after_here numbers i true h = listed_last numbers (suc i)
+after_here numbers i false h = h
+
+pub after_later : (numbers : List ℕ) (i n : ℕ) (filled : Bool) → suc i < n → is_listed numbers n ≡ false → is_listed (numbers_after numbers i filled) n ≡ false
+after_later numbers i n true more h = listed_other numbers (suc i) n (grind (arith, nat_tests)) ∙ h
+after_later numbers i n false more h = h
+
+-- ---- on what marks and uses rest
+
+module _ (w : World) (r y : Run) (e : y.since.origin ≡ r.since.origin) (numbers others : List ℕ) where
+  state_same : (i : ℕ) → from_restart w y i ≡ from_restart w r i
+  state_same i = ap (λ (o : Option State). option_and_then (λ s. state_after w.image w.files all_taken s i) o) e
+
+  pub marks_same : (i : ℕ) → ((n : ℕ) → n ≤ i → is_listed others n ≡ is_listed numbers n) → marks_with others w y i ≡ marks_with numbers w r i
+  unfolding marks_with
+  marks_same zero same = refl
+  marks_same (suc i) same =
+      ap₂ (λ (filled : Bool) (o : Option State). marks_after_some w.image filled o (marks_with others w y i)) (same (suc i) (omega arith)) (state_same i)
+      ∙ ap (marks_after_some w.image (is_listed numbers (suc i)) (from_restart w r i)) (marks_same i (λ n h. same n (omega arith)))
+
+  pub uses_same : (i : ℕ) → ((n : ℕ) → n ≤ i → is_listed others n ≡ is_listed numbers n) → before_use_with others w y i ≡ before_use_with numbers w r i
+  unfolding before_use_with
+  uses_same zero same = refl
+  uses_same (suc i) same =
+      ap₂ (λ (b c : Bool). b && not c) (uses_same i (λ n h. same n (omega arith)))
+      (ap₂ (λ (o : Option State) (m : Marks). some_use w.image o m) (state_same i) (marks_same i (λ n h. same n (omega arith))))
+
+-- ---- what is told
+
+pub start_told : StartIsTold
+unfolding marks_with before_use_with
+start_told w r = record { up_to = λ n h. refl; marks = refl; uses = refl }
+
+pub next_told : NextIsTold
+unfolding marks_with before_use_with
+next_told w r i numbers m unused filled s told at =
+    let here = after_here numbers i filled (told.up_to (suc i) (omega arith)) in
+    let next : List ℕ = numbers_after numbers i filled in
+    let before : marks_with next w r i ≡ m = marks_same w r r refl numbers next i (λ n h. after_earlier numbers i n filled h) ∙ sym told.marks in
+    let unused_before : before_use_with next w r i ≡ unused = uses_same w r r refl numbers next i (λ n h. after_earlier numbers i n filled h) ∙ sym told.uses in
+    record {
+      up_to = λ n h. after_later numbers i n filled h (told.up_to n (omega arith));
+      marks = sym (ap₂ (λ (b : Bool) (o : Option State). marks_after_some w.image b o (marks_with next w r i)) here at ∙ ap (marks_after w.image.layout filled s (instr_at w.image s)) before);
+      uses = sym (ap₂ (λ (b c : Bool). b && not c) unused_before (ap₂ (λ (o : Option State) (k : Marks). some_use w.image o k) at before));
+    }
+
+pub told_kept : ToldIsKept
+told_kept w r y i numbers m unused e told = record {
+  up_to = told.up_to;
+  marks = told.marks ∙ sym (marks_same w r y e numbers numbers i (λ n h. refl));
+  uses = told.uses ∙ sym (uses_same w r y e numbers numbers i (λ n h. refl));
+}
+
+pub told_of_run : ToldIsOfRun
+told_of_run w r i numbers m unused told same = (
+  told.marks ∙ sym (marks_same w r r refl numbers r.since.filled i same),
+  told.uses ∙ sym (uses_same w r r refl numbers r.since.filled i same),
+)
+
+pub first_use_told : FirstUseIsTold
+unfolding before_use_with
+first_use_told w r i numbers m unused s told at =
+    ap₂ (λ (b c : Bool). b && not (b && not c)) (sym told.uses) (ap₂ (λ (o : Option State) (k : Marks). some_use w.image o k) at (sym told.marks))
+    ∙ both unused (is_use w.image.layout s (instr_at w.image s) m)
+  where
+    both : (b c : Bool) → (b && not (b && not c)) ≡ (b && c)
+    both true true = refl
+    both true false = refl
+    both false c = refl
+
+-- ---- what completes touches data
+
+state_suc : (w : World) (o : State) (i : ℕ) → state_after w.image w.files all_taken o (suc i) ≡ option_and_then (next_state w.image w.files all_taken) (state_after w.image w.files all_taken o i)
+unfolding state_after
+state_suc w o i = refl
+
+module _ (p : Image) (files : Files) (t : Taken) (s next : State) where
+  load_goes : (y z : Bool) (m : Memory) (op : LoadOp) (rs : Registers) (pc rd a : ℕ) → completed (after_effect p files t s (load_if y z m op rs pc rd a)) ≡ Some next → z ≡ true
+  load_goes y true m op rs pc rd a h = refl
+  load_goes true false m op rs pc rd a h = absurd (let bad : None ≡ Some next = h in cc)
+  load_goes false false m op rs pc rd a h = absurd (let bad : None ≡ Some next = h in cc)
+
+  store_goes : (y z : Bool) (a width v : ℕ) → completed (after_effect p files t s (store_if y z a width v)) ≡ Some next → z ≡ true
+  store_goes y true a width v h = refl
+  store_goes true false a width v h = absurd (let bad : None ≡ Some next = h in cc)
+  store_goes false false a width v h = absurd (let bad : None ≡ Some next = h in cc)
+
+  goes_on_data : (i : Instr) → completed (after_effect p files t s (effect Plain (data_rights p.layout) s.memory s.registers s.pc i)) ≡ Some next → touches_data (is_data p.layout) s.registers i ≡ true
+  goes_on_data (Load op rd rs1 imm) h = load_goes _ _ s.memory op s.registers s.pc rd _ h
+  goes_on_data (Store op rs1 rs2 imm) h = store_goes _ _ _ _ _ h
+  goes_on_data (Jalr rd rs1 imm) h = refl
+  goes_on_data (Branch op rs1 rs2 imm) h = refl
+  goes_on_data (Lui rd imm) h = refl
+  goes_on_data (Auipc rd imm) h = refl
+  goes_on_data (Jal rd imm) h = refl
+  goes_on_data (OpImm op rd rs1 imm) h = refl
+  goes_on_data (OpImmW op rd rs1 imm) h = refl
+  goes_on_data (Op op rd rs1 rs2) h = refl
+  goes_on_data (OpW op rd rs1 rs2) h = refl
+  goes_on_data (Fence word) h = refl
+  goes_on_data Ecall h = refl
+  goes_on_data Ebreak h = refl
+  goes_on_data Hgate h = refl
+  goes_on_data Hleave h = refl
+  goes_on_data (Hsite rd) h = refl
+  goes_on_data (Hkey rd) h = refl
+  goes_on_data Hstop h = refl
+  goes_on_data Hrestart h = refl
+  goes_on_data (Hcall b) h = refl
+  goes_on_data (Hpark c) h = refl
+  goes_on_data Illegal h = refl
+
+  at_instr : (o : Option Instr) (i : Instr) → o ≡ Some i → completed (at_word p files t s o) ≡ Some next → touches_data (is_data p.layout) s.registers i ≡ true
+  at_instr o i e h = goes_on_data i (sym (ap (λ (x : Option Instr). completed (at_word p files t s x)) e) ∙ h)
+
+  unless_goes : (o : Option ℕ) (i : Instr) → instr_at p s ≡ Some i → next_unless o p files t s ≡ Some next → touches_data (is_data p.layout) s.registers i ≡ true
+  unless_goes None i e h = at_instr (instr_at p s) i e h
+  unless_goes (Some code) i e h = absurd (let bad : None ≡ Some next = h in cc)
+
+pub next_has_data : NextHasData
+next_has_data w r i s next instr at after here = from_origin r.since.origin at after
+  where
+    step_goes : option_and_then (next_state w.image w.files all_taken) (Some s) ≡ Some next → touches_data (is_data w.image.layout) s.registers instr ≡ true
+    step_goes h = unless_goes w.image w.files all_taken s next s.exited instr here h
+
+    by_steps : (o : State) → state_after w.image w.files all_taken o i ≡ Some s → state_after w.image w.files all_taken o (suc i) ≡ Some next → touches_data (is_data w.image.layout) s.registers instr ≡ true
+    by_steps o e h = step_goes (sym (ap (option_and_then (next_state w.image w.files all_taken)) e) ∙ (sym (state_suc w o i) ∙ h))
+
+    from_origin : (o : Option State) → option_and_then (λ s. state_after w.image w.files all_taken s i) o ≡ Some s → option_and_then (λ s. state_after w.image w.files all_taken s (suc i)) o ≡ Some next → touches_data (is_data w.image.layout) s.registers instr ≡ true
+    from_origin None e h = absurd (let bad : None ≡ Some next = h in cc)
+    from_origin (Some o) e h = by_steps o e h

@@ -1,0 +1,13 @@
+use Rattle.std.proofs.Common.{arith}
+use Rattle.use_marks.specs.Ranges.{in_ranges}
+use Rattle.use_marks.proofs.InRanges.{any_some, any_none, any_from-zero}
+use Rattle.use_marks.proofs.ranges.Ranges.contains_any.Goals as goal
+
+pub returns-then-count-eq0 : goal.returns-then-count-eq0
+returns-then-count-eq0 c = any_from-zero (in_ranges c.args.self.now.last_by_first.entries) c.args.address c.args.count c.if-count-eq0.true
+
+pub returns-in-Some : goal.returns-in-Some
+returns-in-Some c = any_some c.args.self.now.last_by_first c.in-Some.ensures.ordered c.args.self.now.kept c.args.address c.args.count (omega (arith, c.if-count-eq0.false)) c.in-Some.field-0-0 c.in-Some.last c.in-Some.ensures.some
+
+pub returns-in-None : goal.returns-in-None
+returns-in-None c = any_none c.args.self.now.last_by_first c.in-None.ensures.ordered c.args.self.now.kept c.args.address c.args.count (omega (arith, c.if-count-eq0.false)) c.in-None.ensures.none

@@ -1,0 +1,7 @@
+use Rattle.std.proofs.Common.{ℕ, List, ap}
+use Rattle.use_marks.specs.Ranges.{in_ranges}
+use Rattle.use_marks.proofs.ranges.Ranges.new.Goals as goal
+
+pub returns : goal.returns
+unfolding in_ranges
+returns c = λ a. ap (λ (ranges : List (ℕ × ℕ)). in_ranges ranges a) c.new.ensures.empty

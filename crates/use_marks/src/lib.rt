@@ -1,0 +1,19 @@
+//! Marks: which registers and which bytes may rest on a byte that a skipped read left unfilled, kept
+//! along the instructions of the run from a restart, and the first use of such a value. The trace of
+//! `trace --uses` is to keep them (`Marks::pass` after each own instruction), and to cite
+//! `marks_are_told` for the place of the first use.
+#![tactic(auto)]
+
+mod access;
+mod by_first;
+mod laws;
+mod marks;
+mod ranges;
+mod read_mark;
+#[cfg(test)]
+mod tests;
+
+pub use access::is_within_data;
+pub use laws::{completed_touches_data, marks_are_told};
+pub use marks::Marks;
+pub use read_mark::ReadMark;

@@ -1,0 +1,82 @@
+//! Addresses, kept as ascending ranges.
+
+ghost use Rattle.std.specs.Prelude.{◌≡◌, ℕ, ◌+◌, ◌^◌, ◌≤◌, false, OnOk, OnErr};
+ghost use Rattle.std.specs.BTreeMap as tree;
+ghost use Rattle.std.specs.Ordering.{nat_cmp};
+ghost use Rattle.rv_model.specs.Memory.{any_from};
+ghost use Rattle.use_marks.specs.Ranges.{in_ranges, with_range, IsKept};
+
+#[cfg(test)]
+mod tests;
+
+use crate::by_first::{add, before, take};
+use spec_base::NoMemory;
+use std::alloc::Global;
+use std::collections::BTreeMap;
+
+/// A set of addresses: ranges that neither overlap nor touch, by their first addresses. So a stretch
+/// that is added in pieces is one range. A contract sees it by `in_ranges`.
+#[derive(Drop)]
+pub(crate) struct Ranges {
+    last_by_first: BTreeMap<u64, u64>,
+    ghost kept: { IsKept (tree.get nat_cmp last_by_first) },
+}
+
+impl Ranges {
+    /// No address.
+    pub fn new(alloc: Global) -> Ranges
+        ensures { (a : ℕ) → in_ranges result.last_by_first.entries a ≡ false }
+    {
+        Ranges {
+            last_by_first: BTreeMap::new(alloc),
+        }
+    }
+
+    /// Takes all away.
+    pub fn clear(&mut self)
+        ensures { (a : ℕ) → in_ranges self.new.last_by_first.entries a ≡ false }
+    {
+        self.last_by_first.clear();
+    }
+
+    /// Whether an address is among them.
+    pub fn contains(&self, address: u64) -> bool
+        ensures { result ≡ in_ranges self.now.last_by_first.entries address }
+    {
+        match before(&self.last_by_first, address) {
+            Some((_, last)) => address <= last,
+            None => false,
+        }
+    }
+
+    /// Whether one of so many addresses from one on is among them.
+    pub fn contains_any(&self, address: u64, count: u64) -> bool
+        requires { address + count ≤ 2 ^ 64 }
+        ensures { result ≡ any_from (in_ranges self.now.last_by_first.entries) address count }
+    {
+        if count == 0 {
+            return false;
+        }
+        match before(&self.last_by_first, address + (count - 1)) {
+            Some((_, last)) => address <= last,
+            None => false,
+        }
+    }
+
+    /// Adds so many addresses from one on (true), or takes them away.
+    pub fn set(&mut self, address: u64, count: u64, marked: bool) -> Result<(), NoMemory>
+        requires { address + count ≤ 2 ^ 64 }
+        ensures ok { OnOk result ((a : ℕ) → in_ranges self.new.last_by_first.entries a ≡ with_range (in_ranges self.old.last_by_first.entries) address count marked a) }
+        ensures err { OnErr result (self.new.last_by_first.entries ≡ self.old.last_by_first.entries) }
+    {
+        if count == 0 {
+            return Ok(());
+        }
+        if marked {
+            add(&mut self.last_by_first, address, address + (count - 1))?;
+            return Ok(());
+        }
+        take(&mut self.last_by_first, address, address + (count - 1))?;
+        Ok(())
+    }
+}

@@ -1,0 +1,21 @@
+//! Ranges that grow together and fall apart.
+
+use super::Ranges;
+use std::process::Abort;
+use std::test::Fail;
+
+#[test]
+fn keeps_a_stretch_as_one_range(rt: HostRuntime) -> Result<(), Fail> {
+    let mut ranges = Ranges::new(rt.alloc());
+    for address in 0..4096 {
+        ranges.set(address, 1, true)?;
+    }
+    assert_eq!(rt; ranges.last_by_first.len(), 1);
+    ranges.set(8192, 1, true)?;
+    ranges.set(1000, 8, false)?;
+    assert_eq!(rt; ranges.last_by_first.len(), 3);
+    ranges.set(1000, 8, true)?;
+    ranges.set(4096, 4096, true)?;
+    assert_eq!(rt; ranges.last_by_first.len(), 1);
+    Ok(())
+}
