@@ -120,6 +120,7 @@ module _ (bytes : List ℕ) (image : Image) (regions : ℕ) (version : Version) 
   runs-as_plain = record {
     carries = carried_of image regions version;
     recovers = (is-read_back bytes image regions version h.are_bytes h.accepted h.some_regions h.few_regions).carries;
+    accepted = subst (λ (p : Program). Accepted (record { image = p; files = files })) (sym program-is) accepted;
     plain = subst (λ (p : Program). SamePlain (plain_world bytes image version arguments files) (record { image = p; files = files })) (sym program-is) plain-same;
     code = λ r. subst (λ (p : Program). RunsLoadedCode file (record { image = p; files = files }) r) (sym program-is) (loaded r);
     promises = λ ms. subst (λ (p : Program). KeepsPromises (plain_world bytes image version arguments files) (record { image = p; files = files }) ms) (sym program-is) (kept ms);

@@ -77,10 +77,11 @@ pub record RunsLoadedCode (file : List ℕ) (w : World) (r : Run) : Type 0 where
 abbrev pub world_again : List ℕ → Recovered → List (List ℕ) → Files → World
 world_again file r arguments files = world_of file (opened_again file r) arguments files
 
--- the rewritten file carries a program whose plain run is that of the file that was rewritten; each run of it executes the code that the file loads, does as `plain` of the file that was rewritten, and has true hints
+-- the rewritten file carries a program of which the laws of runs speak, and whose plain run is that of the file that was rewritten; each run of it executes the code that the file loads, does as `plain` of the file that was rewritten, and has true hints
 pub record RunsAsPlain (bytes : List ℕ) (image : Image) (regions : ℕ) (version : Version) (arguments : List (List ℕ)) (files : Files) : Type 0 where
   pub carries : Recovered
   pub recovers : recovered (rewritten bytes image regions version) ≡ Ok carries
+  pub accepted : Accepted (world_again (rewritten bytes image regions version) carries arguments files)
   pub plain : SamePlain (plain_world bytes image version arguments files) (world_again (rewritten bytes image regions version) carries arguments files)
   pub code :
       (r : Run) →
