@@ -1,0 +1,11 @@
+pub mod Counts
+pub mod Parts
+pub mod Plans
+pub mod Answers
+pub mod OwnCalls
+pub mod Idle
+pub mod Staged
+pub mod Gathers
+pub mod Asked
+pub mod Heard
+pub mod Turns
