@@ -1,0 +1,30 @@
+-- The laws of what moves ask (this project's own).
+use Rattle.std.specs.Prelude.{◌≡◌, ◌⊎◌, Bool, [], ◌∷◌, ◌++◌}
+use Rattle.spec_base.specs.Files.{Name}
+use Rattle.spec_base.specs.declared.note.Move.{Move}
+use Rattle.run_model.specs.Run.{World, Run, Answer}
+use Rattle.run_model.specs.Moves.{Moves, step, run}
+use Rattle.run_laws.specs.OwnLaws.{IsShadowMove}
+use Rattle.move_requests.specs.Asked.{Asked, Nothing, Looks, asks}
+use Rattle.move_requests.specs.Offers.{store_call, store_calls, offers_in, offers}
+
+-- a move that asks nothing does the same whatever is answered
+abbrev pub HearsWhatItAsks : Type 0
+HearsWhatItAsks = (w : World) (r : Run) (m : Move) (x y : Answer) → asks w r m ≡ Nothing → step w r (m, x) ≡ step w r (m, y)
+
+abbrev pub IsLookOrNothing : Asked → Type 0
+IsLookOrNothing asked = (asked ≡ Nothing) ⊎ ((name : Name) × (asked ≡ Looks name))
+
+-- a move of the shadow asks for no more than a look
+abbrev pub ShadowLooksAlone : Type 0
+ShadowLooksAlone = (w : World) (r : Run) (m : Move) → IsShadowMove m → IsLookOrNothing (asks w r m)
+
+-- one move more adds its call on the store and its put to those of a run
+pub record AddsMove (w : World) (ms : Moves) (m : Move × Answer) : Type 0 where
+  pub next : run w (ms ++ m ∷ []) ≡ step w (run w ms) m
+  pub store : store_calls w (ms ++ m ∷ []) ≡ store_calls w ms ++ store_call (asks w (run w ms) m.0) m.1
+  pub puts : (to_out : Bool) → offers to_out w (ms ++ m ∷ []) ≡ offers to_out w ms ++ offers_in to_out (asks w (run w ms) m.0) m.1
+
+-- so it is behind all moves
+abbrev pub MovesAddUp : Type 0
+MovesAddUp = (w : World) (ms : Moves) (m : Move × Answer) → AddsMove w ms m
