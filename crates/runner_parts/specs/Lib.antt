@@ -6,6 +6,5 @@ pub mod OwnCalls
 pub mod Idle
 pub mod Staged
 pub mod Gathers
-pub mod Asked
 pub mod Heard
 pub mod Turns

@@ -1,5 +1,5 @@
 -- What the parts of a runner show of a run (this project's own).
-use Rattle.std.specs.Prelude.{ℕ, ◌≡◌, ◌≤◌, ◌<◌, ◌*◌, ⊤, ◌⊎◌, Bool, true, false, List, take, length, slice_get, Option, Some, None}
+use Rattle.std.specs.Prelude.{ℕ, ◌≡◌, ◌≤◌, ◌<◌, ◌*◌, ◌⊎◌, IsTrue, Bool, true, false, List, take, length, slice_get, Option, Some, None}
 use Rattle.std.specs.List.{flat_map}
 use Rattle.spec_base.specs.Layout.{stub_start}
 use Rattle.spec_base.specs.declared.machine.View.{View}
@@ -16,6 +16,7 @@ use Rattle.program_model.specs.Cache.{Cache, blocks_of}
 use Rattle.code_model.specs.Stub.{stub}
 use Rattle.run_model.specs.Run.{World, Run, ShadowHart, RunEnd, Exits, Traps, StoreFailed, SinkFailed}
 use Rattle.hart_step.specs.Core.{Core}
+use Rattle.word_laws.specs.Shown.{is_own_view}
 use Rattle.cache_queue.specs.State.{CacheState, lists}
 use Rattle.cache_queue.specs.Finishes.{TrueTo, padded_block}
 use Rattle.runner_parts.specs.Counts.{Counted}
@@ -37,20 +38,13 @@ pub record OwnSide : Type 0 where
 abbrev pub own_side : Run → OwnSide
 own_side r = record { own = r.own; site = r.site; view = r.view; asked = r.asked; stalled = r.stalled; gathered = r.gathered; end = r.end }
 
--- the own hart is in the program or in the stub
-abbrev pub IsOwnView : View → Type 0
-IsOwnView Program = ⊤
-IsOwnView Stub = ⊤
-IsOwnView Plain = ⊥
-IsOwnView Shadow = ⊥
-
 abbrev pub side_core : OwnSide → Core
 side_core o = record { registers = o.own.registers; pc = o.own.pc; view = o.view; site = o.site }
 
 -- hart, descriptors, and where its read stands
 pub record ShowsOwn (o : OwnSide) (core : Core) (files : Descriptors) (asked stalled : Bool) (gathered : ℕ) : Type 0 where
   pub hart : core ≡ side_core o
-  pub side : IsOwnView o.view
+  pub side : IsTrue (is_own_view o.view)
   pub files_are : files ≡ o.own.files
   pub asked_is : asked ≡ o.asked
   pub stalled_is : stalled ≡ o.stalled
