@@ -6,3 +6,4 @@ pub mod Blocks
 pub mod Staged
 pub mod NeededBlocks
 pub mod ReadFronts
+pub mod Saying

@@ -161,3 +161,10 @@ stands-behind files blocks i into part rest (Lost spot) room front tells = block
 stands-behind files blocks i into part rest Nothing room front tells = tt
 stands-behind files blocks i into part rest (Dropped spot) room front tells = tt
 stands-behind files blocks i into part rest (Fault spot) room front tells = tt
+
+-- a part of a buffer has as many bytes as its bounds say
+pub mid-length : (had n : ℕ) (into : List ℕ) → had + n ≤ length into → length (take (had + n - had) (drop had into)) ≡ n
+mid-length had n into room =
+    let long : had + n - had ≡ n = omega arith in
+    let rest : length (drop had into) ≡ length into - had = length-drop had into in
+    ap (λ (k : ℕ). length (take k (drop had into))) long ∙ length-take-le n (drop had into) (omega (arith, rest, room))
