@@ -1,3 +1,4 @@
 pub mod Deaf
 pub mod Looks
 pub mod Snoc
+pub mod Heard

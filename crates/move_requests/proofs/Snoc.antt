@@ -1,5 +1,5 @@
--- The calls and puts of a run, with one move more.
-use Rattle.std.proofs.Common.{◌≡◌, Bool, List, [], ◌∷◌, ◌++◌, refl, sym, ap, ◌∙◌}
+-- The run, its calls and its puts, with one move more.
+use Rattle.std.proofs.Common.{◌≡◌, Bool, [], ◌∷◌, ◌++◌, refl, sym, ap, ◌∙◌}
 use Rattle.std.proofs.lemmas.List.{append_assoc, append-nil}
 use Rattle.spec_base.specs.declared.note.Move.{Move}
 use Rattle.run_model.specs.Run.{World, Run, Answer, opened_run}
@@ -14,12 +14,12 @@ module _ (w : World) (m : Move × Answer) where
   run-snoc r [] = refl
   run-snoc r (n ∷ ms) = run-snoc (step w r n) ms
 
-  calls-snoc : (r : Run) (ms : Moves) → store_calls_from w r (ms ++ m ∷ []) ≡ store_calls_from w r ms ++ store_call (asks w (run_from w r ms) m.0) m.1
+  calls-snoc : (r : Run) (ms : Moves) → store_calls_from w r (ms ++ m ∷ []) ≡ store_call (asks w (run_from w r ms) m.0) m.1 ++ store_calls_from w r ms
   unfolding run_from store_calls_from
-  calls-snoc r [] = append-nil (store_call (asks w r m.0) m.1)
+  calls-snoc r [] = sym (append-nil (store_call (asks w r m.0) m.1))
   calls-snoc r (n ∷ ms) =
-      ap (λ l. store_call (asks w r n.0) n.1 ++ l) (calls-snoc (step w r n) ms)
-      ∙ sym (append_assoc (store_call (asks w r n.0) n.1) (store_calls_from w (step w r n) ms) (store_call (asks w (run_from w (step w r n) ms) m.0) m.1))
+      ap (λ l. l ++ store_call (asks w r n.0) n.1) (calls-snoc (step w r n) ms)
+      ∙ append_assoc (store_call (asks w (run_from w (step w r n) ms) m.0) m.1) (store_calls_from w (step w r n) ms) (store_call (asks w r n.0) n.1)
 
   offers-snoc : (to_out : Bool) (r : Run) (ms : Moves)
       → offers_from to_out w r (ms ++ m ∷ []) ≡ offers_from to_out w r ms ++ offers_in to_out (asks w (run_from w r ms) m.0) m.1

@@ -18,10 +18,10 @@ store_call (Fetches spot) x = has_failed x ∷ []
 store_call (Puts to_out bytes) x = []
 store_call Nothing x = []
 
--- those of moves from a run on, oldest first
+-- those of moves from a run on, newest first
 unfoldable pub store_calls_from : World → Run → Moves → List Bool
 store_calls_from w r [] = []
-store_calls_from w r (m ∷ ms) = store_call (asks w r m.0) m.1 ++ store_calls_from w (step w r m) ms
+store_calls_from w r (m ∷ ms) = store_calls_from w (step w r m) ms ++ store_call (asks w r m.0) m.1
 
 -- those of a run
 abbrev pub store_calls : World → Moves → List Bool
