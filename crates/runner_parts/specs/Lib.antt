@@ -8,3 +8,4 @@ pub mod Staged
 pub mod Gathers
 pub mod Heard
 pub mod Turns
+pub mod Requests
