@@ -106,7 +106,7 @@ impl Counts {
 
     /// The shadow arrives at a block.
     pub fn arrive(&mut self)
-        requires { AreBelow self.old }
+        requires { self.old.shadow_since < self.old.moves }
         ensures { self.new ≡ one_arrival self.old }
     {
         self.shadow_since += 1;
@@ -148,7 +148,7 @@ impl Counts {
 
     /// The shadow gives a hint.
     pub fn hint(&mut self)
-        requires { AreBelow self.old }
+        requires { self.old.hints < self.old.moves }
         ensures { self.new ≡ one_hint self.old }
     {
         self.hints += 1;
