@@ -4,3 +4,5 @@ pub mod Hearing
 pub mod Filled
 pub mod ShadowPlans
 pub mod ShadowSteps
+pub mod Going
+pub mod FetchSteps

@@ -1,11 +1,11 @@
 -- A move of the shadow, and what it asks.
-use Rattle.std.proofs.Common.{◌≡◌, Bool, true, false, not, ◌&&◌, Option, Some, None, refl, sym, ap, subst, ◌∙◌}
+use Rattle.std.proofs.Common.{◌≡◌, Bool, true, false, not, ◌&&◌, ◌||◌, Option, Some, None, refl, sym, ap, subst, ◌∙◌}
 use Rattle.spec_base.specs.declared.note.Move.TheVariants.{S, T}
 use Rattle.spec_base.specs.declared.note.ShadowState.{ShadowState}
 use Rattle.spec_base.specs.declared.note.ShadowState.TheVariants.{Never, Running, Stopped, Parked}
 use Rattle.run_model.specs.Run.{World, Run, RunEnd, Answer}
 use Rattle.run_model.specs.ShadowMoves.{is_running, is_call_word, fetch_shadow, shadow_plan, shadow_step, assumed}
-use Rattle.run_model.specs.Moves.{begun, step, step_unless}
+use Rattle.run_model.specs.Moves.{begun, step, step_unless, shadow_while, is_idle}
 use Rattle.program_model.specs.Calls.{CallPlan}
 use Rattle.world_io.specs.Outside.{StoreState}
 use Rattle.runner.specs.ShadowGoes.{Assumes, StoreAnswers}
@@ -33,6 +33,29 @@ module _ (w : World) (r : Run) (goes : r.end ≡ None) where
   -- the move is a word of the shadow
   pub step-is : (x : Answer) → step w r (S, x) ≡ shadow_step w x (begun r)
   step-is x = ap (λ (o : Option RunEnd). step_unless o w r (S, x)) goes
+
+-- ---- a move T
+
+module _ (w : World) (r : Run) (goes : r.end ≡ None) where
+  -- while the own hart waits it is a move S
+  pub asks-waiting : r.stalled ≡ true → asks w r T ≡ asks w r S
+  asks-waiting e =
+      ap (λ (o : Option RunEnd). asks_unless o w r T) goes
+      ∙ ap (λ (b : Bool). asks_if (b && (is_running r.shadow.state && is_call_word (fetch_shadow w r.shadow.pc))) (assuming_asks (shadow_plan w r))) e
+      ∙ sym (ap (λ (o : Option RunEnd). asks_unless o w r S) goes)
+
+  -- else it asks nothing
+  pub asks-free : r.stalled ≡ false → asks w r T ≡ Nothing
+  asks-free e =
+      ap (λ (o : Option RunEnd). asks_unless o w r T) goes
+      ∙ ap (λ (b : Bool). asks_if (b && (is_running r.shadow.state && is_call_word (fetch_shadow w r.shadow.pc))) (assuming_asks (shadow_plan w r))) e
+
+  pub step-waiting : (x : Answer) → r.stalled ≡ true → step w r (T, x) ≡ step w r (S, x)
+  step-waiting x e =
+      ap (λ (o : Option RunEnd). step_unless o w r (T, x)) goes ∙ ap (λ (b : Bool). shadow_while b w x (begun r)) e ∙ sym (ap (λ (o : Option RunEnd). step_unless o w r (S, x)) goes)
+
+  pub idle-free : r.stalled ≡ false → is_idle T r ≡ true
+  idle-free e = ap (λ (b : Bool). not b || not (is_running r.shadow.state)) e
 
 -- ---- the same, said otherwise
 

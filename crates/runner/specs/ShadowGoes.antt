@@ -58,6 +58,7 @@ StoreAnswers asked x old new = (out err : SinkState) → IsAnswered asked x (bes
 
 -- a planned call is assumed
 pub record Assumes (v u : Runner) (unhinted : Bool) (plan : CallPlan) (old new : StoreState) : Type 0 where
+  pub files : new.files ≡ old.files
   pub answer : Answer
   pub said : List Said
   pub told : (files : Files) → old.files ≡ Some files → AreTrueOf files said
@@ -68,6 +69,7 @@ pub record Assumes (v u : Runner) (unhinted : Bool) (plan : CallPlan) (old new :
 
 -- a word of a running shadow is made
 pub record MakesWord (v u : Runner) (old new : StoreState) : Type 0 where
+  pub files : new.files ≡ old.files
   pub answer : Answer
   pub said : List Said
   pub told : (files : Files) → old.files ≡ Some files → AreTrueOf files said
@@ -76,6 +78,7 @@ pub record MakesWord (v u : Runner) (old new : StoreState) : Type 0 where
 
 -- a move of a run that goes on, which asks nothing of the sinks
 pub record MakesStep (m : Move) (v u : Runner) (old new : StoreState) : Type 0 where
+  pub files : new.files ≡ old.files
   pub answer : Answer
   pub said : List Said
   pub told : (files : Files) → old.files ≡ Some files → AreTrueOf files said

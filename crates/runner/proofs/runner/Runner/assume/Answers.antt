@@ -19,6 +19,7 @@ returns-in-Set-clause-assumes g c =
     let d : ℕ = reg (core_of c.args.self.now.shadow).registers 10 in
     assumes-as _ _ c.args.unhinted _ (Set (changed f c.in-Set.change) c.in-Set.value) _ _ (ap (λ (p : PlannedCall). plan_shown d (made f p)) c.in-Set.is)
     (record {
+      files = refl;
       answer = Usual;
       said = [];
       told = nothing-told _;
@@ -38,6 +39,7 @@ returns-in-Read-clause-assumes g c =
     let d : ℕ = reg (core_of c.args.self.now.shadow).registers 10 in
     assumes-as _ _ c.args.unhinted _ (Read d c.in-Read.spot c.in-Read.address) _ _ (ap (λ (p : PlannedCall). plan_shown d (made f p)) c.in-Read.is)
     (record {
+      files = refl;
       answer = Usual;
       said = [];
       told = nothing-told _;
@@ -54,6 +56,7 @@ returns-in-Write-clause-assumes g c =
     let d : ℕ = reg (core_of c.args.self.now.shadow).registers 10 in
     assumes-as _ _ c.args.unhinted _ (Write c.in-Write.field-0 c.in-Write.field-1 c.in-Write.count) _ _ (ap (λ (p : PlannedCall). plan_shown d (made f p)) c.in-Write.is)
     (record {
+      files = refl;
       answer = Usual;
       said = [];
       told = nothing-told _;
@@ -67,6 +70,7 @@ returns-in-Exit-clause-assumes g c =
     let d : ℕ = reg (core_of c.args.self.now.shadow).registers 10 in
     assumes-as _ _ c.args.unhinted _ (Exit c.in-Exit.field-0) _ _ (ap (λ (p : PlannedCall). plan_shown d (made f p)) c.in-Exit.is)
     (record {
+      files = refl;
       answer = Usual;
       said = [];
       told = nothing-told _;

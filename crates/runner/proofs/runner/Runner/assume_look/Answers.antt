@@ -13,6 +13,7 @@ use Rattle.runner.proofs.runner.Runner.assume_look.Goals as goal
 pub returns-in-Found-clause-looks : goal.returns-in-Found-clause-looks
 returns-in-Found-clause-looks g c unhinted =
     record {
+      files = c.in-Found.ensures.keeps.files;
       answer = Usual;
       said = Sized c.args.name.now (Some c.in-Found.size) ∷ [];
       told = look-told _ c.args.name.now (look.Found c.in-Found.size) c.in-Found.ensures.told;
@@ -26,6 +27,7 @@ returns-in-Found-clause-looks g c unhinted =
 pub returns-in-Absent-clause-looks : goal.returns-in-Absent-clause-looks
 returns-in-Absent-clause-looks g c unhinted =
     record {
+      files = c.in-Absent.ensures.keeps.files;
       answer = Usual;
       said = Sized c.args.name.now None ∷ [];
       told = look-told _ c.args.name.now look.Absent c.in-Absent.ensures.told;
@@ -39,6 +41,7 @@ returns-in-Absent-clause-looks g c unhinted =
 pub returns-in-Failed-clause-looks : goal.returns-in-Failed-clause-looks
 returns-in-Failed-clause-looks g c unhinted =
     record {
+      files = c.in-Failed.ensures.keeps.files;
       answer = Failed;
       said = [];
       told = look-told _ c.args.name.now look.Failed c.in-Failed.ensures.told;

@@ -7,6 +7,7 @@ returns-clause-assumes g c =
     let a = c.assume.ensures.assumes in
     assumes-as _ _ c.args.unhinted _ _ _ _ (sym c.plan_of_shadow-plan.ensures.plan)
     (record {
+      files = a.files;
       answer = a.answer;
       said = a.said;
       told = a.told;

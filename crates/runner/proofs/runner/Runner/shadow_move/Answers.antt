@@ -13,6 +13,7 @@ use Rattle.runner.proofs.runner.Runner.shadow_move.Goals as goal
 pub returns-then-not-runs-clause-makes : goal.returns-then-not-runs-clause-makes
 returns-then-not-runs-clause-makes g c =
     record {
+      files = refl;
       answer = Usual;
       said = [];
       told = nothing-told _;
@@ -28,8 +29,9 @@ returns-then-not-runs-clause-makes g c =
 
 pub returns-clause-makes : goal.returns-clause-makes
 returns-clause-makes g c =
-    let m = c.shadow_turn.ensures in
+    let m = c.shadow_turn.ensures.makes in
     record {
+      files = m.files;
       answer = m.answer;
       said = m.said;
       told = m.told;

@@ -11,10 +11,11 @@ use Rattle.runner.proofs.ShadowPlans.{plan-is, has-all, keeps-sizes}
 use Rattle.runner.proofs.ShadowSteps.{answers-as, assumed-plan}
 use Rattle.runner.proofs.runner.Runner.shadow_turn.Goals as goal
 
-pub returns-in-Some : goal.returns-in-Some
-returns-in-Some g c =
+pub returns-in-Some-clause-makes : goal.returns-in-Some-clause-makes
+returns-in-Some-clause-makes g c =
     let a = c.shadow_call.ensures.assumes in
     record {
+      files = a.files;
       answer = a.answer;
       said = a.said;
       told = a.told;
@@ -29,9 +30,10 @@ returns-in-Some g c =
           (assumed-plan _ w r a.answer c.in-Some.unhinted (shadow_plan w r) _ (sym (plan-is _ w r left.shows)) (a.shows w r left.shows (has-all _ w r left.shows) (keeps-sizes _ w r left.shows) ok said)));
     }
 
-pub returns-in-None : goal.returns-in-None
-returns-in-None g c =
+pub returns-in-None-clause-makes : goal.returns-in-None-clause-makes
+returns-in-None-clause-makes g c =
     record {
+      files = refl;
       answer = Usual;
       said = [];
       told = nothing-told _;
