@@ -17,10 +17,10 @@ use Rattle.runner.specs.Shows.{Shows}
 use Rattle.runner.specs.declared.runner.Runner.{Runner}
 
 -- a move of a run, answered so, leads to the run that the runner then shows: the outside was asked what the move asks, and the turn is that of the move. At most the layout's regions are in use, and a move of the shadow leaves all that is the program's
-pub record LeadsTo (m : Move) (x : Answer) (turn : Turn) (u : Runner) (w : World) (r : Run) (old new : Outside) : Type 0 where
+pub record LeadsTo (m : Move) (x : Answer) (answered : Turn) (u : Runner) (w : World) (r : Run) (old new : Outside) : Type 0 where
   pub hears : Hears w r m x old new
   pub shows : Shows u w (step w r (m, x))
-  pub turn : turn ≡ turn_of r m (step w r (m, x))
+  pub turn : answered ≡ turn_of r m (step w r (m, x))
   pub bounded : slots_in_use (step w r (m, x)).shared ≤ w.image.layout.regions
   pub unseen : IsShadowMove m → own_part (step w r (m, x)) ≡ own_part r
 

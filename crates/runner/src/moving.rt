@@ -1,6 +1,6 @@
 //! How a move begins.
 
-ghost use Rattle.std.specs.Prelude.{◌≡◌, ◌+◌, ◌<◌, ◌^◌};
+ghost use Rattle.std.specs.Prelude.{◌≡◌, ◌+◌, ◌<◌, ◌^◌, []};
 ghost use Rattle.run_model.specs.Run.{World, Run};
 ghost use Rattle.run_model.specs.Moves.{begun, silent};
 ghost use Rattle.runner_parts.specs.Counts.{AreBelow};
@@ -14,6 +14,8 @@ impl Runner {
         ensures shows { (w : World) (r : Run) → Shows self.old w r → Shows self.new w (silent r) }
         ensures counts { self.new.counts ≡ self.old.counts }
         ensures quiet { self.new.text ≡ 0 }
+        ensures silent { self.new.notes ≡ [] }
+        ensures state { self.new.state ≡ self.old.state }
         ensures end { self.new.end ≡ self.old.end }
         ensures stalled { self.new.stalled ≡ self.old.stalled }
         ensures own { (self.new.own ≡ self.old.own) × (self.new.mem ≡ self.old.mem) }
@@ -28,6 +30,8 @@ impl Runner {
         ensures shows { (w : World) (r : Run) → Shows self.old w r → Shows self.new w (begun r) }
         ensures below { AreBelow self.new.counts }
         ensures quiet { self.new.text ≡ 0 }
+        ensures silent { self.new.notes ≡ [] }
+        ensures state { self.new.state ≡ self.old.state }
         ensures end { self.new.end ≡ self.old.end }
         ensures stalled { self.new.stalled ≡ self.old.stalled }
         ensures moves { self.new.counts.moves ≡ self.old.counts.moves + 1 }

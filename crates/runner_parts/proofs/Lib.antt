@@ -7,3 +7,4 @@ pub mod Staged
 pub mod NeededBlocks
 pub mod ReadFronts
 pub mod Saying
+pub mod FilledReads

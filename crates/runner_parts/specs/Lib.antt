@@ -9,3 +9,4 @@ pub mod Gathers
 pub mod Heard
 pub mod Turns
 pub mod Requests
+pub mod Fillings

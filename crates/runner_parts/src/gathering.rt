@@ -103,7 +103,7 @@ fn peek_blocks(cache: &Cache, name: &Name, first: u64, count: u64, into: &mut [u
 
 /// Reads the blocks of a read in order, up to the first that isn't cached, and leaves the cache as it
 /// is. Answers whether all are. The bytes of each go to its place in a buffer.
-pub fn peek_all(cache: &Cache, spot: &ReadSpot, into: &mut [u8]) -> bool
+pub(crate) fn peek_all(cache: &Cache, spot: &ReadSpot, into: &mut [u8]) -> bool
     requires offset { spot.now.offset < 2 ^ 56 }
     requires count { spot.now.count ≤ 65536 }
     requires room { length into.old ≡ 69632 }

@@ -5,6 +5,7 @@
 mod assuming;
 mod counts;
 mod fetching;
+mod filling;
 mod gathering;
 mod hinting;
 mod laws;
@@ -22,7 +23,8 @@ pub use counts::Counts;
 pub use fetching::{
     blocks_had, end_of_finish, finish_at, finish_beside, still_waits, tell_finish,
 };
-pub use gathering::{need_rest, peek_all};
+pub use filling::fill_held;
+pub use gathering::need_rest;
 pub use hinting::{block_count, hint_blocks};
 pub use laws::bytes_are_staged;
 pub use notes::Notes;

@@ -1,0 +1,4 @@
+pub mod Shows
+pub mod ShadowGoes
+pub mod Fetches
+pub mod Goes
