@@ -24,7 +24,9 @@ use Rattle.runner_parts.specs.Requests.{IsAnswered}
 use Rattle.runner_parts.specs.Turns.{turn_of, turn_if, turn_after, turn_unless}
 use Rattle.runner_parts.specs.declared.turn.End.{End}
 use Rattle.runner_parts.specs.declared.turn.Turn.{Turn}
-use Rattle.runner_parts.specs.declared.turn.Turn.TheVariants.{Ended}
+use Rattle.runner_parts.specs.declared.turn.Turn.TheVariants.{Ended, NoMemory}
+use Rattle.runner_parts.specs.declared.turn.End.TheVariants as ending
+use Rattle.runner.specs.OwnGoes.{MakesOwnMove}
 use Rattle.runner.specs.Goes.{LeadsTo, MakesMove}
 use Rattle.runner.specs.ShadowGoes.{MakesStep, beside}
 use Rattle.runner.specs.Shows.{Shows}
@@ -71,6 +73,36 @@ made-of m t v u old new out err idle on told same makes =
             unseen = λ shadow. (shadow_is_invisible w r m makes.answer shadow).leaves;
           };
     }
+
+-- ---- a move of the own hart
+
+pub made-own : (t : Turn) (v u : Runner) (old new : Outside) → v.end ≡ None → t ≡ turn_if v.stalled (turn_after u.end) → MakesOwnMove v u old new → MakesMove O t v u old new
+made-own t v u old new on told makes =
+    record {
+      answer = makes.answer;
+      said = makes.said;
+      told = makes.told;
+      leads = λ w ms a h said.
+          let r : Run = run w ms in
+          let goes : r.end ≡ None = still-none r.end (sym h.end ∙ on) in
+          let shows : Shows u w (step w r (O, makes.answer)) = makes.shows w r a h (sizes_are_true w a ms).own said in
+          record {
+            hears = makes.hears w r a h;
+            shows = shows;
+            turn = turn-is u w r O makes.answer goes shows t v.stalled told h.own.stalled_is;
+            bounded = at-most w a ms O makes.answer;
+            unseen = λ shadow. (shadow_is_invisible w r O makes.answer shadow).leaves;
+          };
+    }
+
+-- only a move of the own hart wants pages
+pub never-starved : (b : Bool) (e : Option End) → turn_if b (turn_after e) ≡ NoMemory → ⊥
+never-starved true e q = cc
+never-starved false None q = cc
+never-starved false (Some (ending.Exit code)) q = cc
+never-starved false (Some (ending.Trap cause pc)) q = cc
+never-starved false (Some ending.Store) q = cc
+never-starved false (Some ending.Sink) q = cc
 
 -- ---- a run that has ended
 

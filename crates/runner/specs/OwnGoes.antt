@@ -9,19 +9,16 @@ use Rattle.program_model.specs.PlainRun.{plan_of}
 use Rattle.code_model.specs.Stub.{stub}
 use Rattle.run_model.specs.Run.{World, Run, Answer}
 use Rattle.run_model.specs.OwnMoves.{own_in, own_call_step}
-use Rattle.run_model.specs.Moves.{step, fetch_step}
+use Rattle.run_model.specs.Moves.{step}
 use Rattle.run_laws.specs.OwnLaws.{Accepted}
 use Rattle.mark_laws.specs.Agreement.{HasAll}
 use Rattle.mark_laws.specs.Sizes.{TrueSizes}
 use Rattle.word_laws.specs.Shown.{is_performed}
-use Rattle.world_io.specs.Outside.{StoreState}
-use Rattle.cache_queue.specs.declared.finish.Finished.{Finished}
-use Rattle.runner_parts.specs.Answers.{finish_answer}
 use Rattle.plain_runner.specs.Runs.{Outside}
 use Rattle.move_requests.specs.Asked.{Asked, asks_if, is_stub, performing_asks}
 use Rattle.move_requests.specs.Hears.{Hears}
 use Rattle.runner_parts.specs.Requests.{IsAnswered}
-use Rattle.runner_parts.specs.Heard.{Said, AreTrueOf, said_by_finish}
+use Rattle.runner_parts.specs.Heard.{Said, AreTrueOf}
 use Rattle.runner_parts.specs.OwnCalls.{IsAtPlan}
 use Rattle.runner.specs.Shows.{Shows}
 use Rattle.runner.specs.declared.runner.Runner.{Runner}
@@ -55,9 +52,3 @@ pub record MakesOwnMove (v u : Runner) (old new : Outside) : Type 0 where
   pub told : (files : Files) → old.store.files ≡ Some files → AreTrueOf files said
   pub hears : (w : World) (r : Run) → Accepted w → Shows v w r → Hears w r O answer old new
   pub shows : (w : World) (r : Run) → Accepted w → Shows v w r → TrueSizes w.files r.own.files → AreTrueOf w.files said → Shows u w (step w r (O, answer))
-
--- the demanded fetch finishes
-pub record Finishes (v u : Runner) (old : StoreState) (f : Finished) : Type 0 where
-  pub bytes : List ℕ
-  pub told : (files : Files) → old.files ≡ Some files → AreTrueOf files (said_by_finish f bytes)
-  pub shows : (w : World) (r : Run) → Shows v w r → AreTrueOf w.files (said_by_finish f bytes) → Shows u w (fetch_step w (finish_answer f) r)

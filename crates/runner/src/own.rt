@@ -73,6 +73,7 @@ impl Runner {
         requires spare { 17 ≤ spare_of self.old.mem }
         ensures makes { MakesWord self.old self.new (record { store = D.state store.old; out = O.state out.old; err = E.state err.old })
             (record { store = D.state store.new; out = O.state out.new; err = E.state err.new }) }
+        ensures files { (D.state store.new).files ≡ (D.state store.old).files }
         ensures moves { self.new.counts.moves ≡ self.old.counts.moves }
     {
         match step(&mut self.own, &mut self.mem) {
