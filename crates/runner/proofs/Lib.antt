@@ -9,4 +9,4 @@ pub mod Filled
 pub mod ShadowPlans
 pub mod ShadowSteps
 pub mod FetchSteps
-pub mod Going
+pub mod MovesMade

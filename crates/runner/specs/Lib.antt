@@ -3,3 +3,4 @@ pub mod OwnGoes
 pub mod ShadowGoes
 pub mod Fetches
 pub mod Goes
+pub mod Opens

@@ -8,6 +8,7 @@ mod demanding;
 mod fetching;
 mod going;
 mod moving;
+mod opening;
 mod own;
 mod own_call;
 mod own_move;
@@ -18,5 +19,6 @@ mod restarting;
 mod runner;
 mod shadow;
 mod shadow_move;
+mod showing;
 
 pub use runner::Runner;

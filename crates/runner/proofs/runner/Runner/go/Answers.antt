@@ -1,5 +1,5 @@
 use Rattle.std.proofs.Common.{sym}
-use Rattle.runner.proofs.Going.{made-silent}
+use Rattle.runner.proofs.MovesMade.{made-silent}
 use Rattle.runner.proofs.runner.Runner.go.Goals as goal
 
 pub returns-in-Some-clause-makes : goal.returns-in-Some-clause-makes

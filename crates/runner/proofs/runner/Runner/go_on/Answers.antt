@@ -5,7 +5,7 @@ use Rattle.spec_base.specs.declared.note.ShadowState.{ShadowState}
 use Rattle.program_model.specs.Cache.{Cache, in_flight}
 use Rattle.run_model.specs.ShadowMoves.{is_running}
 use Rattle.cache_queue.specs.State.{lists}
-use Rattle.runner.proofs.Going.{made-of, made-own, never-starved}
+use Rattle.runner.proofs.MovesMade.{made-of, made-own, never-starved}
 use Rattle.runner.proofs.runner.Runner.go_on.Goals as goal
 
 pub returns-in-O-clause-makes : goal.returns-in-O-clause-makes
