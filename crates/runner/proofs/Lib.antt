@@ -4,3 +4,7 @@ pub mod Hearing
 pub mod Filled
 pub mod ShadowPlans
 pub mod ShadowSteps
+pub mod Puts
+pub mod Words
+pub mod Outside
+pub mod OwnMoves

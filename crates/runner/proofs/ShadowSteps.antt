@@ -1,6 +1,6 @@
 -- A move of the shadow, and what it asks.
-use Rattle.std.proofs.Common.{◌≡◌, Bool, true, false, not, ◌&&◌, Option, Some, None, refl, sym, ap, subst, ◌∙◌}
-use Rattle.spec_base.specs.declared.note.Move.TheVariants.{S, T}
+use Rattle.std.proofs.Common.{◌≡◌, Bool, true, false, ◌&&◌, Option, None, refl, sym, ap, subst, ◌∙◌}
+use Rattle.spec_base.specs.declared.note.Move.TheVariants.{S}
 use Rattle.spec_base.specs.declared.note.ShadowState.{ShadowState}
 use Rattle.spec_base.specs.declared.note.ShadowState.TheVariants.{Never, Running, Stopped, Parked}
 use Rattle.run_model.specs.Run.{World, Run, RunEnd, Answer}
