@@ -1,5 +1,5 @@
 -- A move, put together from what it does and from the laws of runs.
-use Rattle.std.proofs.Common.{◌≡◌, ◌≤◌, Bool, true, false, [], ◌∷◌, ◌++◌, Option, Some, None, refl, sym, ap, subst, ◌∙◌}
+use Rattle.std.proofs.Common.{◌≡◌, ◌≢◌, ◌≤◌, ◌⊎◌, inl, inr, Bool, true, false, [], ◌∷◌, ◌++◌, Option, Some, None, refl, sym, ap, subst, ◌∙◌}
 use Rattle.std.specs.Option.{option_map}
 use Rattle.spec_base.specs.Files.{Files}
 use Rattle.spec_base.specs.declared.note.Move.{Move}
@@ -24,7 +24,7 @@ use Rattle.runner_parts.specs.Requests.{IsAnswered}
 use Rattle.runner_parts.specs.Turns.{turn_of, turn_if, turn_after, turn_unless}
 use Rattle.runner_parts.specs.declared.turn.End.{End}
 use Rattle.runner_parts.specs.declared.turn.Turn.{Turn}
-use Rattle.runner_parts.specs.declared.turn.Turn.TheVariants.{Ended, NoMemory}
+use Rattle.runner_parts.specs.declared.turn.Turn.TheVariants.{Went, Idle, Ended, StoreFault, SinkFault, NoMemory}
 use Rattle.runner_parts.specs.declared.turn.End.TheVariants as ending
 use Rattle.runner.specs.OwnGoes.{MakesOwnMove}
 use Rattle.runner.specs.Goes.{LeadsTo, MakesMove}
@@ -94,6 +94,15 @@ made-own t v u old new on told makes =
             unseen = λ shadow. (shadow_is_invisible w r O makes.answer shadow).leaves;
           };
     }
+
+-- pages were wanted, or not
+pub starved-or : (t : Turn) → (t ≡ NoMemory) ⊎ (t ≢ NoMemory)
+starved-or NoMemory = inl refl
+starved-or Went = inr (λ e. cc)
+starved-or Idle = inr (λ e. cc)
+starved-or (Ended end) = inr (λ e. cc)
+starved-or StoreFault = inr (λ e. cc)
+starved-or SinkFault = inr (λ e. cc)
 
 -- only a move of the own hart wants pages
 pub never-starved : (b : Bool) (e : Option End) → turn_if b (turn_after e) ≡ NoMemory → ⊥

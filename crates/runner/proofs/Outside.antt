@@ -1,12 +1,11 @@
 -- What the outside heard in a move.
-use Rattle.std.proofs.Common.{◌≡◌, ℕ, ◌<◌, ◌≤◌, Bool, true, false, ◌∷◌, [], List, length, max, min, Option, Some, None, inl, inr, refl, sym, ap, subst, arith, IfSome}
-use Rattle.std.specs.Option.{option_map}
-use Rattle.std.proofs.lemmas.List.Elements.{All-nil, All-cons, All-head}
+use Rattle.std.proofs.Common.{◌≡◌, ℕ, ◌<◌, ◌≤◌, Bool, true, false, ◌∷◌, [], List, length, max, min, inl, inr, refl, sym, ap, subst, arith}
+use Rattle.std.proofs.lemmas.List.Elements.{All-nil}
 use Rattle.spec_base.specs.Files.{Name, Files}
 use Rattle.run_model.specs.Run.{Answer, Usual}
 use Rattle.world_io.specs.Outside.{StoreState, SinkState}
 use Rattle.world_io.specs.Logs.{StoreLog, AreOffered, IsOffered}
-use Rattle.world_io.specs.Looks.{LookSays, look_failed}
+use Rattle.world_io.specs.Looks.{look_failed}
 use Rattle.world_io.specs.declared.store.Look.{Look}
 use Rattle.world_io.specs.declared.store.Look.TheVariants as look
 use Rattle.world_io.specs.declared.sink.Put.{Put}
@@ -17,8 +16,7 @@ use Rattle.runner_parts.specs.Answers.{failed_if}
 use Rattle.move_requests.specs.Asked.{Asked, Nothing, Looks, Puts, MayAnswer, asks_if}
 use Rattle.move_requests.specs.Offers.{put_answer as put_told}
 use Rattle.runner_parts.specs.Requests.{IsAnswered}
-use Rattle.program_model.specs.PlainRun.{size_in}
-use Rattle.runner_parts.specs.Heard.{Sized, IsTrueOf, AreTrueOf, said_by_look}
+use Rattle.runner_parts.specs.Heard.{IsTrueOf, AreTrueOf}
 use Rattle.runner_parts.specs.OwnCalls.{put_answer, TakesSome, Offers}
 
 -- ---- nothing
@@ -76,31 +74,6 @@ hears-put false bytes p o n e some offers =
       out = offers.1;
       err = one-offer bytes p o.err n.err some offers.0;
     }
-
--- ---- what a look said
-
--- of a store that tells its files
-pub told-by-look : (o : Option Files) (name : Name) (l : Look) → IfSome o (λ files. LookSays (files name) l) → (files : Files) → o ≡ Some files → AreTrueOf files (said_by_look name l)
-told-by-look o name l told files e = by l (subst (λ (o : Option Files). IfSome o (λ files. LookSays (files name) l)) e told)
-  where
-    found : (file : Option (List ℕ)) (size : ℕ) → LookSays file (look.Found size) → option_map length file ≡ Some size
-    found None size h = absurd h
-    found (Some bytes) size h = ap Some (sym h)
-
-    absent : (file : Option (List ℕ)) → LookSays file look.Absent → option_map length file ≡ None
-    absent None h = refl
-    absent (Some bytes) h = absurd h
-
-    by : (l : Look) → LookSays (files name) l → AreTrueOf files (said_by_look name l)
-    by (look.Found size) h = All-cons (IsTrueOf files) (Sized name (Some size)) [] (found (files name) size h) (All-nil (IsTrueOf files))
-    by look.Absent h = All-cons (IsTrueOf files) (Sized name None) [] (absent (files name) h) (All-nil (IsTrueOf files))
-    by look.Failed h = All-nil (IsTrueOf files)
-
-pub found-size : (files : Files) (name : Name) (size : ℕ) → AreTrueOf files (said_by_look name (look.Found size)) → size_in files name ≡ Some size
-found-size files name size h = All-head (IsTrueOf files) (Sized name (Some size)) [] h
-
-pub absent-size : (files : Files) (name : Name) → AreTrueOf files (said_by_look name look.Absent) → size_in files name ≡ None
-absent-size files name h = All-head (IsTrueOf files) (Sized name None) [] h
 
 -- nothing was said
 pub said-nothing : (files : Files) → AreTrueOf files []

@@ -1,5 +1,5 @@
 -- The plan of the shadow's call, as the code makes it.
-use Rattle.std.proofs.Common.{◌≡◌, ℕ, sym, ap, subst}
+use Rattle.std.proofs.Common.{◌≡◌, ℕ, subst}
 use Rattle.rv_model.specs.Registers.{reg}
 use Rattle.rv_model.specs.Rights.{is_data}
 use Rattle.rv_model.specs.Space.{Space}

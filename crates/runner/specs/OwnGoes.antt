@@ -1,5 +1,5 @@
 -- What a move of the own hart, or a part of one, does to a runner and to the outside (this project's own).
-use Rattle.std.specs.Prelude.{◌≡◌, ◌&&◌, ℕ, List, Some}
+use Rattle.std.specs.Prelude.{◌≡◌, ◌&&◌, List, Some}
 use Rattle.spec_base.specs.Files.{Files}
 use Rattle.spec_base.specs.Layout.{stub_start}
 use Rattle.spec_base.specs.declared.note.Move.TheVariants.{O}
@@ -30,6 +30,7 @@ pub record Performs (v u : Runner) (plan : CallPlan) (old new : Outside) : Type 
   pub answer : Answer
   pub said : List Said
   pub told : (files : Files) → old.store.files ≡ Some files → AreTrueOf files said
+  pub files : new.store.files ≡ old.store.files
   pub hears : (w : World) (r : Run) → Shows v w r → IsAnswered (performing_asks r.own.memory plan) answer old new
   pub shows : (w : World) (r : Run) → Shows v w r → IsAtPlan w r plan → HasAll w.files plan → AreTrueOf w.files said → Shows u w (own_call_step w answer r plan)
 
@@ -38,10 +39,11 @@ abbrev pub word_asks : World → Run → Asked
 word_asks w r = asks_if (is_stub r.view && is_performed (fetched stub stub_start r.own.pc)) (performing_asks r.own.memory (plan_of w.image.layout r.own))
 
 -- a word of the own hart, which waits for nothing
-pub record MakesWord (v u : Runner) (old new : Outside) : Type 0 where
+pub record MakesOwnWord (v u : Runner) (old new : Outside) : Type 0 where
   pub answer : Answer
   pub said : List Said
   pub told : (files : Files) → old.store.files ≡ Some files → AreTrueOf files said
+  pub files : new.store.files ≡ old.store.files
   pub hears : (w : World) (r : Run) → Accepted w → Shows v w r → IsAnswered (word_asks w r) answer old new
   pub shows : (w : World) (r : Run) → Accepted w → Shows v w r → TrueSizes w.files r.own.files → AreTrueOf w.files said → Shows u w (own_in r.view w answer r)
 
@@ -50,5 +52,6 @@ pub record MakesOwnMove (v u : Runner) (old new : Outside) : Type 0 where
   pub answer : Answer
   pub said : List Said
   pub told : (files : Files) → old.store.files ≡ Some files → AreTrueOf files said
+  pub files : new.store.files ≡ old.store.files
   pub hears : (w : World) (r : Run) → Accepted w → Shows v w r → Hears w r O answer old new
   pub shows : (w : World) (r : Run) → Accepted w → Shows v w r → TrueSizes w.files r.own.files → AreTrueOf w.files said → Shows u w (step w r (O, answer))

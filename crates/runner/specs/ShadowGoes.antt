@@ -1,5 +1,5 @@
 -- What a word of the shadow, or a part of one, does to a runner (this project's own).
-use Rattle.std.specs.Prelude.{◌≡◌, Bool, true, false, Option, Some, None, List}
+use Rattle.std.specs.Prelude.{◌≡◌, Bool, false, Option, Some, None, List}
 use Rattle.spec_base.specs.Files.{Files}
 use Rattle.spec_base.specs.declared.note.Move.{Move}
 use Rattle.spec_base.specs.declared.note.ShadowState.TheVariants.{Running}

@@ -1,9 +1,9 @@
 //! The fetch that the own hart waits for.
 
 ghost use Rattle.std.specs.Prelude.{◌≡◌, true, None};
-ghost use Rattle.cache_queue.specs.Finishes.{IsOf, FinishFails, FinishCounts};
-ghost use Rattle.cache_queue.specs.State.{lists};
 ghost use Rattle.world_io.specs.Outside.{KeepsFiles};
+ghost use Rattle.cache_queue.specs.State.{lists};
+ghost use Rattle.cache_queue.specs.Finishes.{IsOf, FinishFails, FinishCounts};
 ghost use Rattle.runner.specs.Fetches.{Finishes};
 
 use crate::runner::Runner;
@@ -19,8 +19,8 @@ impl Runner {
         requires waits { self.old.stalled ≡ true }
         requires quiet { self.old.text ≡ 0 }
         ensures block { IsOf (lists self.old.cache) result }
-        ensures keeps { KeepsFiles (D.state store.old) (D.state store.new) }
         ensures finishes { Finishes self.old self.new (D.state store.old) result }
+        ensures keeps { KeepsFiles (D.state store.old) (D.state store.new) }
         ensures failed { FinishFails (D.state store.old).faults result (D.state store.new).faults }
         ensures number { FinishCounts (D.state store.old) result (D.state store.new) }
         ensures moves { self.new.counts.moves ≡ self.old.counts.moves }

@@ -11,7 +11,7 @@ ghost use Rattle.hart_step.specs.Core.{core_of};
 ghost use Rattle.word_laws.specs.OwnWords.{trapped};
 ghost use Rattle.runner_parts.specs.Counts.{AreBelow};
 ghost use Rattle.runner_parts.specs.Parts.{IsAtRest, own_side};
-ghost use Rattle.runner.specs.OwnGoes.{MakesWord};
+ghost use Rattle.runner.specs.OwnGoes.{MakesOwnWord};
 ghost use Rattle.runner.specs.Shows.{Shows};
 
 use crate::runner::Runner;
@@ -71,9 +71,8 @@ impl Runner {
         requires quiet { self.old.text ≡ 0 }
         requires stub { (core_of self.old.own).view ≡ View.Stub }
         requires spare { 17 ≤ spare_of self.old.mem }
-        ensures makes { MakesWord self.old self.new (record { store = D.state store.old; out = O.state out.old; err = E.state err.old })
+        ensures makes { MakesOwnWord self.old self.new (record { store = D.state store.old; out = O.state out.old; err = E.state err.old })
             (record { store = D.state store.new; out = O.state out.new; err = E.state err.new }) }
-        ensures files { (D.state store.new).files ≡ (D.state store.old).files }
         ensures moves { self.new.counts.moves ≡ self.old.counts.moves }
     {
         match step(&mut self.own, &mut self.mem) {

@@ -34,7 +34,6 @@ impl Runner {
         requires kept { PlanKeepsBreak self.old.own_files plan.now }
         ensures performs { Performs self.old self.new (plan_shown (reg (core_of self.old.own).registers 10) (made self.old.own_files plan.now))
             (record { store = D.state store.old; out = O.state out.old; err = E.state err.old }) (record { store = D.state store.new; out = O.state out.new; err = E.state err.new }) }
-        ensures files { (D.state store.new).files ≡ (D.state store.old).files }
         ensures moves { self.new.counts.moves ≡ self.old.counts.moves }
     {
         match plan {
@@ -64,7 +63,6 @@ impl Runner {
         requires spare { 17 ≤ spare_of self.old.mem }
         ensures performs { Performs self.old self.new (plan_in_data (space_of self.old.mem) self.old.own_files (core_of self.old.own).registers)
             (record { store = D.state store.old; out = O.state out.old; err = E.state err.old }) (record { store = D.state store.new; out = O.state out.new; err = E.state err.new }) }
-        ensures files { (D.state store.new).files ≡ (D.state store.old).files }
         ensures moves { self.new.counts.moves ≡ self.old.counts.moves }
     {
         let plan = plan_of_own(&self.own, &self.own_files, &self.mem);

@@ -5,7 +5,7 @@ ghost use Rattle.hart_mem.specs.Held.{spare_of};
 ghost use Rattle.runner_parts.specs.Turns.{turn_if, turn_after};
 ghost use Rattle.runner_parts.specs.Counts.{AreBelow};
 ghost use Rattle.runner.specs.Goes.{WantsPages};
-ghost use Rattle.runner.specs.OwnGoes.{MakesWord, MakesOwnMove};
+ghost use Rattle.runner.specs.OwnGoes.{MakesOwnWord, MakesOwnMove};
 
 use crate::runner::Runner;
 use runner_parts::{Turn, turn_after};
@@ -23,9 +23,8 @@ impl Runner {
         requires goes { self.old.stalled ≡ false }
         requires quiet { self.old.text ≡ 0 }
         requires spare { 17 ≤ spare_of self.old.mem }
-        ensures makes { MakesWord self.old self.new (record { store = D.state store.old; out = O.state out.old; err = E.state err.old })
+        ensures makes { MakesOwnWord self.old self.new (record { store = D.state store.old; out = O.state out.old; err = E.state err.old })
             (record { store = D.state store.new; out = O.state out.new; err = E.state err.new }) }
-        ensures files { (D.state store.new).files ≡ (D.state store.old).files }
         ensures moves { self.new.counts.moves ≡ self.old.counts.moves }
     {
         match self.own.view() {
@@ -46,8 +45,7 @@ impl Runner {
     ) -> Turn
         requires on { self.old.end ≡ None }
         requires few { self.old.counts.moves < 2 ^ 63 }
-        ensures files { (D.state store.new).files ≡ (D.state store.old).files }
-        ensures moves { self.new.counts.moves ≤ self.old.counts.moves + 1 }
+        ensures moves { result ≢ Turn.NoMemory → self.new.counts.moves ≡ self.old.counts.moves + 1 }
         ensures wants { result ≡ Turn.NoMemory → WantsPages Move.O self.old self.new (record { store = D.state store.old; out = O.state out.old; err = E.state err.old })
             (record { store = D.state store.new; out = O.state out.new; err = E.state err.new }) }
         ensures turn { result ≢ Turn.NoMemory → result ≡ turn_if self.old.stalled (turn_after self.new.end) }

@@ -56,7 +56,6 @@ impl Runner {
         ensures log { StoreLog (D.state store.old) (look_failed result ∷ []) (D.state store.new) }
         ensures shows { (w : World) (r : Run) → Shows self.old w r → AreTrueOf w.files (said_by_look name.now result)
             → Shows self.new w (own_call_step w (failed_if (look_failed result)) r (Looks name.now)) }
-        ensures files { (D.state store.new).files ≡ (D.state store.old).files }
         ensures moves { self.new.counts.moves ≡ self.old.counts.moves }
     {
         match store.look(name) {

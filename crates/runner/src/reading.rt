@@ -36,7 +36,12 @@ impl Runner {
         ensures counts { self.new.counts ≡ self.old.counts }
         ensures kept { (self.new.mem ≡ self.old.mem) × (self.new.own ≡ self.old.own) × (self.new.own_files ≡ self.old.own_files) }
     {
-        let had = need_rest(&mut self.cache, spot, self.gathered as u64, &mut self.staging);
+        let had = need_rest(
+            &mut self.cache,
+            spot,
+            self.gathered as u64,
+            &mut self.staging,
+        );
         let block = block_behind(spot, had);
         self.gathered = had as usize;
         self.stalled = block.is_some();

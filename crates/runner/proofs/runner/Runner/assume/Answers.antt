@@ -1,7 +1,7 @@
-use Rattle.std.proofs.Common.{◌≡◌, ℕ, [], pos, Some, sym, ap, subst, refl}
+use Rattle.std.proofs.Common.{◌≡◌, ℕ, [], ap, subst, refl}
 use Rattle.rv_model.specs.Registers.{reg}
 use Rattle.program_model.specs.Descriptors.{Descriptors}
-use Rattle.program_model.specs.Calls.{CallPlan, Set, Look, Read, Write, Exit, after_read, bytes_read}
+use Rattle.program_model.specs.Calls.{Set, Look, Read, Write, Exit, after_read}
 use Rattle.run_model.specs.Run.{Usual}
 use Rattle.run_model.specs.ShadowMoves.{assumed}
 use Rattle.mark_laws.specs.Sizes.{TrueSizes}

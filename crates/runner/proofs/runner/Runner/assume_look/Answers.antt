@@ -1,5 +1,4 @@
-use Rattle.std.proofs.Common.{◌≡◌, ℕ, ℤ, [], ◌∷◌, Option, Some, None, refl, sym, ap, subst, ◌∙◌}
-use Rattle.program_model.specs.Descriptors.{Descriptors}
+use Rattle.std.proofs.Common.{◌≡◌, ℕ, [], ◌∷◌, Option, Some, None, sym, subst}
 use Rattle.program_model.specs.Calls.{opened}
 use Rattle.program_model.specs.PlainRun.{size_in}
 use Rattle.run_model.specs.Run.{Usual, Failed}

@@ -11,9 +11,12 @@ unfolding space_of_run
 returns-clause-shows c w r d h plan long =
     let front : HasFront w c.args.spot.now r.gathered c.args.self.now.staging.items = has-front w r d c.args.spot.now c.args.address r.cache c.args.self.now.staging.items plan h.cache.gathers in
     let all : r.gathered ≡ length (blocks_of c.args.spot.now) = sym h.own.gathered_is ∙ c.requires.all in
-    let bytes : take c.args.spot.now.count (drop (c.args.spot.now.offset % 4096) c.deref.result.now) ≡ bytes_read w.files c.args.spot.now =
-    ap (λ (k : List ℕ). take c.args.spot.now.count (drop (c.args.spot.now.offset % 4096) k)) c.deref.ensures.value
-    ∙ bytes-here w c.args.spot.now r.gathered c.args.self.now.staging.items front all long in
+    let count : ℕ = c.args.spot.now.count in
+    let skip : ℕ = c.args.spot.now.offset % 4096 in
+    let staged : List ℕ = c.args.self.now.staging.items in
+    let lent : take count (drop skip c.deref.result.now) ≡ take count (drop skip staged) = ap (λ (k : List ℕ). take count (drop skip k)) c.deref.ensures.value in
+    let here : take count (drop skip staged) ≡ bytes_read w.files c.args.spot.now = bytes-here w c.args.spot.now r.gathered staged front all long in
+    let bytes : take count (drop skip c.deref.result.now) ≡ bytes_read w.files c.args.spot.now = lent ∙ here in
     let none : r.cache.demanded ≡ None = sym (ap (λ (k : Cache). k.demanded) h.cache.lists_are) ∙ c.args.self.now.idle c.requires.goes in
     record {
       space = c.fill_staged.ensures ∙ (λ i. record (h.space i) { program = written (h.space i).program c.args.address (bytes i) });

@@ -26,6 +26,7 @@ returns-clause-performs g c =
       answer = p.answer;
       said = p.said;
       told = p.told;
+      files = p.files;
       hears = λ w r h.
           subst (λ (k : CallPlan). IsAnswered (performing_asks r.own.memory k) p.answer o n) plan
           (p.hears w r (record { space = h.space; own = h.own; shadow = h.shadow; sizes = h.sizes; cache = h.cache; counts = h.counts; ahead = h.ahead; whole = h.whole; end = h.end; notes = h.notes; text = h.text }));

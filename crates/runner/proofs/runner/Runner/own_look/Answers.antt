@@ -7,18 +7,18 @@ use Rattle.run_model.specs.OwnMoves.{own_call_step}
 use Rattle.world_io.specs.declared.store.Look.TheVariants.{Found, Absent, Failed}
 use Rattle.world_io.proofs.Stores.{look-StoreLog}
 use Rattle.file_calls.specs.Plans.{changed}
-use Rattle.runner.proofs.Outside.{told-by-look, found-size, absent-size}
+use Rattle.runner.proofs.Hearing.{look-told, said-size}
 use Rattle.runner.proofs.Moved.{shows-as}
 use Rattle.runner.proofs.runner.Runner.own_look.Goals as goal
 
 pub returns-in-Found-clause-told : goal.returns-in-Found-clause-told
-returns-in-Found-clause-told g c = told-by-look _ c.args.name.now (Found c.in-Found.size) c.in-Found.ensures.told
+returns-in-Found-clause-told g c = look-told _ c.args.name.now (Found c.in-Found.size) c.in-Found.ensures.told
 
 pub returns-in-Absent-clause-told : goal.returns-in-Absent-clause-told
-returns-in-Absent-clause-told g c = told-by-look _ c.args.name.now Absent c.in-Absent.ensures.told
+returns-in-Absent-clause-told g c = look-told _ c.args.name.now Absent c.in-Absent.ensures.told
 
 pub returns-in-Failed-clause-told : goal.returns-in-Failed-clause-told
-returns-in-Failed-clause-told g c = told-by-look _ c.args.name.now Failed c.in-Failed.ensures.told
+returns-in-Failed-clause-told g c = look-told _ c.args.name.now Failed c.in-Failed.ensures.told
 
 pub returns-in-Found-clause-log : goal.returns-in-Found-clause-log
 returns-in-Found-clause-log g c = look-StoreLog _ _ (Found c.in-Found.size) c.in-Found.ensures.keeps c.in-Found.ensures.failed c.in-Found.ensures.number
@@ -31,7 +31,7 @@ returns-in-Failed-clause-log g c = look-StoreLog _ _ Failed c.in-Failed.ensures.
 
 pub returns-in-Found-clause-shows : goal.returns-in-Found-clause-shows
 returns-in-Found-clause-shows g c w r h said =
-    let size : size_in w.files c.args.name.now ≡ Some c.in-Found.size = found-size w.files c.args.name.now c.in-Found.size said in
+    let size : size_in w.files c.args.name.now ≡ Some c.in-Found.size = said-size w.files c.args.name.now (Some c.in-Found.size) said in
     let before : (changed r.own.files c.found-after.result.0, c.found-after.result.1) ≡ opened c.args.self.now.own_files c.args.name.now (Some c.in-Found.size) =
     (λ i. (changed (sym h.own.files_are i) c.found-after.result.0, c.found-after.result.1)) ∙ sym c.found-after.ensures.plan in
     let is : (changed r.own.files c.found-after.result.0, c.found-after.result.1) ≡ opened r.own.files c.args.name.now (size_in w.files c.args.name.now) =
@@ -41,7 +41,7 @@ returns-in-Found-clause-shows g c w r h said =
 
 pub returns-in-Absent-clause-shows : goal.returns-in-Absent-clause-shows
 returns-in-Absent-clause-shows g c w r h said =
-    let none : size_in w.files c.args.name.now ≡ None = absent-size w.files c.args.name.now said in
+    let none : size_in w.files c.args.name.now ≡ None = said-size w.files c.args.name.now None said in
     let plain : Descriptors × ℤ = opened r.own.files c.args.name.now None in
     shows-as _ w _ (own_call_step w Usual r (Set plain.0 plain.1))
     (ap (λ (o : Option ℕ). own_call_step w Usual r (Set (opened r.own.files c.args.name.now o).0 (opened r.own.files c.args.name.now o).1)) none) (c.own_set-in-Absent.ensures.shows w r Usual h)

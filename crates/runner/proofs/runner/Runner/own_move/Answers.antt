@@ -1,4 +1,4 @@
-use Rattle.std.proofs.Common.{[], sym, ◌∙◌}
+use Rattle.std.proofs.Common.{[], refl, sym, ◌∙◌}
 use Rattle.run_model.specs.Run.{Usual}
 use Rattle.run_model.specs.Moves.{begun}
 use Rattle.run_model.specs.OwnMoves.{own_in}
@@ -17,6 +17,7 @@ returns-then-self-clause-makes g c made =
       answer = Usual;
       said = [];
       told = λ files e. said-nothing files;
+      files = refl;
       hears = λ w r a h. answered-as w r Usual o o Nothing (stalled-asks w r (still-none r.end (sym h.end ∙ c.requires.on)) (sym h.own.stalled_is ∙ c.if-self.true)) (hears-nothing o);
       shows = λ w r a h sizes said.
           shows-as c.begin.new.self w _ (begun r) (stalled-step w r (still-none r.end (sym h.end ∙ c.requires.on)) Usual (sym h.own.stalled_is ∙ c.if-self.true)) (c.begin.ensures.shows w r h);
@@ -31,6 +32,7 @@ returns-clause-makes g c made =
       answer = p.answer;
       said = p.said;
       told = p.told;
+      files = p.files;
       hears = λ w r a h.
           answered-as w r p.answer o n (word_asks w (begun r)) (word-asks w r (still-none r.end (sym h.end ∙ c.requires.on)) (sym h.own.stalled_is ∙ c.if-self.false)) (p.hears w (begun r) a (c.begin-2.ensures.shows w r h));
       shows = λ w r a h sizes said.

@@ -1,4 +1,4 @@
-use Rattle.std.proofs.Common.{◌≡◌, ◌&&◌, IsTrue, [], sym, ap, subst, ◌∙◌}
+use Rattle.std.proofs.Common.{◌≡◌, ◌&&◌, IsTrue, [], refl, sym, ap, subst, ◌∙◌}
 use Rattle.spec_base.specs.Layout.{stub_start}
 use Rattle.spec_base.specs.declared.machine.View.{View}
 use Rattle.spec_base.specs.declared.machine.View.TheVariants.{Program}
@@ -26,6 +26,7 @@ returns-in-Program-clause-makes g c =
       answer = Usual;
       said = [];
       told = λ files e. said-nothing files;
+      files = refl;
       hears = λ w r a h.
           let view : r.view ≡ Program = view-is (core_of v.own) r Program h.own.hart (sym c.in-Program.ensures) in
           hears-if (is_stub r.view && is_performed (fetched stub stub_start r.own.pc)) (performing_asks r.own.memory (plan_of w.image.layout r.own)) o
@@ -44,6 +45,7 @@ returns-in_default-clause-makes g c =
       answer = Usual;
       said = [];
       told = λ files e. said-nothing files;
+      files = refl;
       hears = λ w r a h. absurd (none w r h);
       shows = λ w r a h sizes said. absurd (none w r h);
     }

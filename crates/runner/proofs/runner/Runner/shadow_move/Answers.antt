@@ -1,7 +1,7 @@
-use Rattle.std.proofs.Common.{◌≡◌, Bool, true, false, not, [], None, refl, sym, ap, subst, ◌∙◌}
+use Rattle.std.proofs.Common.{◌≡◌, true, false, not, [], None, sym, ap, ◌∙◌}
 use Rattle.spec_base.specs.declared.note.Move.TheVariants.{S}
 use Rattle.spec_base.specs.declared.note.ShadowState.{ShadowState}
-use Rattle.run_model.specs.Run.{World, Run, Usual}
+use Rattle.run_model.specs.Run.{Usual}
 use Rattle.run_model.specs.Moves.{begun}
 use Rattle.run_model.specs.ShadowMoves.{is_running}
 use Rattle.runner_parts.proofs.Idle.{step-idle}

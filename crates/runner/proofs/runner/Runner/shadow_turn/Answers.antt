@@ -1,4 +1,4 @@
-use Rattle.std.proofs.Common.{◌≡◌, Bool, true, false, [], Option, Some, refl, sym, ap, subst, ◌∙◌}
+use Rattle.std.proofs.Common.{[], Option, sym, ap}
 use Rattle.rv_decode.specs.declared.instr.Instr.{Instr}
 use Rattle.program_model.specs.Calls.{CallPlan}
 use Rattle.run_model.specs.Run.{Usual}

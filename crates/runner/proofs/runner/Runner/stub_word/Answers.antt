@@ -42,6 +42,7 @@ returns-in-Done-clause-makes g c =
       answer = Usual;
       said = [];
       told = λ files e. said-nothing files;
+      files = refl;
       hears = λ w r a h.
           let goes : StubGoes event.Done w r new t = stub-goes v w r a h c.requires.stub event.Done new t c.in-Done.ensures.outcome in
           hears-if (is_stub r.view && is_performed (fetched stub stub_start r.own.pc)) (performing_asks r.own.memory (plan_of w.image.layout r.own)) o
@@ -76,6 +77,7 @@ returns-in-Leave-clause-makes g c =
       answer = Usual;
       said = [];
       told = λ files e. said-nothing files;
+      files = refl;
       hears = λ w r a h.
           let goes : StubGoes event.Leave w r new t = stub-goes v w r a h c.requires.stub event.Leave new t c.in-Leave.ensures.outcome in
           hears-if (is_stub r.view && is_performed (fetched stub stub_start r.own.pc)) (performing_asks r.own.memory (plan_of w.image.layout r.own)) o
@@ -110,6 +112,7 @@ returns-in-Key-clause-makes g c =
       answer = Usual;
       said = [];
       told = λ files e. said-nothing files;
+      files = refl;
       hears = λ w r a h.
           let goes : StubGoes (event.Key c.in-Key.rd) w r new t = stub-goes v w r a h c.requires.stub (event.Key c.in-Key.rd) new t c.in-Key.ensures.outcome in
           hears-if (is_stub r.view && is_performed (fetched stub stub_start r.own.pc)) (performing_asks r.own.memory (plan_of w.image.layout r.own)) o
@@ -149,6 +152,7 @@ returns-in-Stop-clause-makes g c =
       answer = Usual;
       said = [];
       told = λ files e. said-nothing files;
+      files = refl;
       hears = λ w r a h.
           let goes : StubGoes event.Stop w r new t = stub-goes v w r a h c.requires.stub event.Stop new t c.in-Stop.ensures.outcome in
           hears-if (is_stub r.view && is_performed (fetched stub stub_start r.own.pc)) (performing_asks r.own.memory (plan_of w.image.layout r.own)) o
@@ -183,6 +187,7 @@ returns-in-Restart-clause-makes g c =
       answer = Usual;
       said = [];
       told = λ files e. said-nothing files;
+      files = refl;
       hears = λ w r a h.
           let goes : StubGoes event.Restart w r new t = stub-goes v w r a h c.requires.stub event.Restart new t c.in-Restart.ensures.outcome in
           hears-if (is_stub r.view && is_performed (fetched stub stub_start r.own.pc)) (performing_asks r.own.memory (plan_of w.image.layout r.own)) o
@@ -219,6 +224,7 @@ returns-in-Trap-clause-makes g c =
       answer = Usual;
       said = [];
       told = λ files e. said-nothing files;
+      files = refl;
       hears = λ w r a h.
           let goes : StubGoes (event.Trap c.in-Trap.cause) w r new t = stub-goes v w r a h c.requires.stub (event.Trap c.in-Trap.cause) new t c.in-Trap.ensures.outcome in
           hears-if (is_stub r.view && is_performed (fetched stub stub_start r.own.pc)) (performing_asks r.own.memory (plan_of w.image.layout r.own)) o
@@ -257,6 +263,7 @@ returns-in-Call-clause-makes g c =
       answer = p.answer;
       said = p.said;
       told = p.told;
+      files = p.files;
       hears = λ w r a h.
           let view : r.view ≡ Stub = view-is (core_of v.own) r Stub h.own.hart c.requires.stub in
           let goes : StubGoes (event.Call c.in-Call.field-0) w r new t = stub-goes v w r a h c.requires.stub (event.Call c.in-Call.field-0) new t c.in-Call.ensures.outcome in
@@ -320,6 +327,7 @@ returns-in_default-clause-makes g c =
       answer = Usual;
       said = [];
       told = λ files e. said-nothing files;
+      files = refl;
       hears = λ w r a h. absurd (none w r a h);
       shows = λ w r a h sizes said. absurd (none w r a h);
     }
