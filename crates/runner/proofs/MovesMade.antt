@@ -74,6 +74,10 @@ made-of m t v u old new out err idle on told same makes =
           };
     }
 
+-- of an equal move
+pub made-as : (m n : Move) (t : Turn) (v u : Runner) (old new : Outside) → m ≡ n → MakesMove n t v u old new → MakesMove m t v u old new
+made-as m n t v u old new e h = subst (λ (m : Move). MakesMove m t v u old new) (sym e) h
+
 -- ---- a move of the own hart
 
 pub made-own : (t : Turn) (v u : Runner) (old new : Outside) → v.end ≡ None → t ≡ turn_if v.stalled (turn_after u.end) → MakesOwnMove v u old new → MakesMove O t v u old new

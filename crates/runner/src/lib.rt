@@ -20,5 +20,7 @@ mod runner;
 mod shadow;
 mod shadow_move;
 mod showing;
+#[cfg(test)]
+mod tests;
 
 pub use runner::Runner;

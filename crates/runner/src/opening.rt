@@ -5,6 +5,7 @@ ghost use Rattle.hart_mem.specs.Held.{space_of};
 ghost use Rattle.hart_step.specs.Core.{core_of};
 ghost use Rattle.run_model.specs.Run.{World, opened_run};
 ghost use Rattle.run_laws.specs.OwnLaws.{Accepted};
+ghost use Rattle.cache_queue.specs.State.{no_blocks};
 ghost use Rattle.runner.specs.Opens.{IsStart};
 ghost use Rattle.runner.specs.Shows.{Shows};
 
@@ -35,12 +36,22 @@ fn zeros(alloc: Global, count: usize) -> Result<Vec<u8>, NoMemory>
 }
 
 impl Runner {
-    /// A runner of a program, of which hart, memory and descriptors are those of its start. It shows the
-    /// first state of the program's run. The cache's lists and the room of two reads are taken here.
-    pub fn new(alloc: Global, own: Hart, mem: Mem, files: Files) -> Result<Runner, NoMemory>
-        ensures { IfOk result (λ v. (w : World) → Accepted w → IsStart w (core_of own) (space_of mem) files → Shows v w (opened_run w)) }
+    // A runner over these parts.
+    fn with_parts(
+        own: Hart,
+        mem: Mem,
+        files: Files,
+        cache: Cache,
+        staging: Vec<u8>,
+        filling: Vec<u8>,
+    ) -> Runner
+        requires empty { cache ≡ no_blocks 256 64 }
+        requires staging { vec_len staging ≡ 69632 }
+        requires filling { vec_len filling ≡ 69632 }
+        ensures moves { result.counts.moves ≡ 0 }
+        ensures shows { (w : World) → Accepted w → IsStart w (core_of own) (space_of mem) files → Shows result w (opened_run w) }
     {
-        Ok(Runner {
+        Runner {
             mem,
             own,
             own_files: files,
@@ -50,15 +61,27 @@ impl Runner {
             shadow: Hart::new(0, View::Shadow),
             shadow_files: files,
             state: ShadowState::Never,
-            cache: Cache::new(alloc, BLOCKS, DEPTH)?,
-            staging: zeros(alloc, STAGED)?,
-            filling: zeros(alloc, STAGED)?,
+            cache,
+            staging,
+            filling,
             counts: Counts::new(),
             ahead: true,
             whole: true,
             end: None,
             notes: Notes::new(),
             text: 0,
-        })
+        }
+    }
+
+    /// A runner of a program, of which hart, memory and descriptors are those of its start. It shows the
+    /// first state of the program's run. The lists of the cache and the room of two reads are taken here.
+    pub fn new(alloc: Global, own: Hart, mem: Mem, files: Files) -> Result<Runner, NoMemory>
+        ensures moves { IfOk result (λ v. v.counts.moves ≡ 0) }
+        ensures shows { IfOk result (λ v. (w : World) → Accepted w → IsStart w (core_of own) (space_of mem) files → Shows v w (opened_run w)) }
+    {
+        let cache = Cache::new(alloc, BLOCKS, DEPTH)?;
+        let staging = zeros(alloc, STAGED)?;
+        let filling = zeros(alloc, STAGED)?;
+        Ok(Runner::with_parts(own, mem, files, cache, staging, filling))
     }
 }

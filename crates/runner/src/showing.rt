@@ -17,7 +17,8 @@ use spec_base::{NoMemory, Note, ShadowState};
 impl Runner {
     /// How many moves were made.
     pub fn moves(&self) -> u64
-        ensures { (w : World) (r : Run) → Shows self.now w r → result ≡ r.moves }
+        ensures value { result ≡ self.now.counts.moves }
+        ensures shows { (w : World) (r : Run) → Shows self.now w r → result ≡ r.moves }
     {
         self.counts.moves()
     }

@@ -1,4 +1,4 @@
-use Rattle.std.proofs.Common.{◌≡◌, true, false, not, [], None, sym, ap, ◌∙◌}
+use Rattle.std.proofs.Common.{◌≡◌, true, false, not, [], None, sym, ap, ◌∙◌, refl}
 use Rattle.spec_base.specs.declared.note.Move.TheVariants.{S}
 use Rattle.spec_base.specs.declared.note.ShadowState.{ShadowState}
 use Rattle.run_model.specs.Run.{Usual}

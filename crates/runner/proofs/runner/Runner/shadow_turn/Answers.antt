@@ -1,4 +1,4 @@
-use Rattle.std.proofs.Common.{[], Option, sym, ap}
+use Rattle.std.proofs.Common.{[], Option, sym, ap, refl}
 use Rattle.rv_decode.specs.declared.instr.Instr.{Instr}
 use Rattle.program_model.specs.Calls.{CallPlan}
 use Rattle.run_model.specs.Run.{Usual}
