@@ -1,0 +1,68 @@
+//! A runner of a short text, move by move.
+
+use crate::Runner;
+use file_calls::Files;
+use hart_mem::Mem;
+use hart_step::Hart;
+use runner_parts::{End, Turn};
+use spec_base::{Layout, Move, Trap, Version, View};
+use std::alloc::Global;
+use std::test::Fail;
+use world_io::{MemSink, MemStore};
+
+const TEXT: u64 = 0x1_0000;
+
+// A runner of `addi x0,x0,0`, behind which the text ends.
+fn runner_of(alloc: Global) -> Result<Runner, Fail> {
+    let mut words = Vec::new(alloc);
+    words.push(0x0000_0013u32)?;
+    let layout = Layout {
+        text_start: TEXT,
+        text_end: TEXT + 4,
+        regions: 1,
+        version: Version::One,
+    };
+    if !layout.is_lawful() || words.len() != 1 {
+        return Err("layout".into());
+    }
+    let mem = Mem::new(alloc, layout, words)?;
+    let hart = Hart::new(TEXT, View::Program);
+    Ok(Runner::new(
+        alloc,
+        hart,
+        mem,
+        Files::new(TEXT + 4096, TEXT + 8192),
+    )?)
+}
+
+// With no page spare nothing moves; then one instruction completes, and the next word is missing. The
+// shadow and the fetches are idle, and an ended runner tells its end.
+#[test]
+fn one_instruction_and_the_end(rt: HostRuntime) -> Result<(), Fail> {
+    let alloc = rt.alloc();
+    let mut runner = runner_of(alloc)?;
+    let mut store = MemStore::new(alloc, Vec::new(alloc));
+    let mut out = MemSink::new(alloc, 0, Vec::new(alloc), Vec::new(alloc))?;
+    let mut err = MemSink::new(alloc, 0, Vec::new(alloc), Vec::new(alloc))?;
+    let end = Turn::Ended(End::Trap(Trap::FetchOut, TEXT + 4));
+    let starved = runner.go(Move::O, &mut store, &mut out, &mut err);
+    assert!(rt; starved == Turn::NoMemory);
+    runner.reserve(17)?;
+    let rows = [
+        (Move::O, Turn::Went),
+        (Move::S, Turn::Idle),
+        (Move::T, Turn::Idle),
+        (Move::D, Turn::Idle),
+        (Move::O, end),
+        (Move::D, end),
+    ];
+    for (step, turn) in &rows {
+        if runner.moves() < 100 {
+            let told = runner.go(*step, &mut store, &mut out, &mut err);
+            assert!(rt; told == *turn);
+        }
+    }
+    assert!(rt; runner.own_done() == 1);
+    assert!(rt; runner.moves() == 5);
+    Ok(())
+}
