@@ -3,6 +3,8 @@ pub mod Rows
 pub mod Least
 pub mod Bound
 pub mod Keeping
+pub mod Listing
+pub mod Nexts
 pub mod Meeting
 pub mod Progress
 pub mod Noting

@@ -1,5 +1,8 @@
 pub mod Plans
 pub mod Kept
+pub mod Coming
+pub mod Tables
+pub mod NextNeeds
 pub mod Occupied
 pub mod Needs
 pub mod Numbering

@@ -23,35 +23,28 @@ pub(crate) struct Met {
 }
 
 impl Occupied {
-    /// No block yet.
-    pub fn new(alloc: Global, blocks: u32) -> Occupied
+    /// No block yet, before so many needs.
+    pub fn new(alloc: Global, blocks: u32, count: usize) -> Result<Occupied, AllocError>
         requires { 1 ≤ blocks }
-        ensures holds { (place : ℕ) (needs : List ℕ) → Holds result place needs [] }
-        ensures blocks { result.blocks ≡ blocks }
+        ensures holds { IfOk result (λ o. (needs : List ℕ) → length needs ≡ count → Holds o 0 needs []) }
+        ensures blocks { IfOk result (λ o. o.blocks ≡ blocks) }
     {
-        Occupied {
-            held: Held::new(alloc),
+        Ok(Occupied {
+            held: Held::new(alloc, count)?,
             count: 0,
             blocks,
-        }
+        })
     }
 
-    /// Meets the need of a block, by the place of its next need, which is the end where there is
-    /// none.
-    pub fn meet(
-        &mut self,
-        place: usize,
-        block: u64,
-        next: usize,
-        end: usize,
-    ) -> Result<Met, AllocError>
+    /// Meets the need of a block, by the place of its next need, which is past all places where
+    /// there is none.
+    pub fn meet(&mut self, place: usize, block: u64, next: usize) -> Result<Met, AllocError>
         ensures met { IfOk result (λ met. (needs held : List ℕ) → Holds self.old place (block ∷ needs) held →
-            next ≡ place + 1 + distance needs block → end ≡ place + 1 + length needs →
-            IsMet self.old self.new place block needs held met) }
+            next ≡ place + 1 + distance needs block → IsMet self.old self.new place block needs held met) }
         ensures blocks { self.new.blocks ≡ self.old.blocks }
     {
         let met = self.make_room(place);
-        self.held.put(block, next, end)?;
+        self.held.put(block, next)?;
         Ok(met)
     }
 

@@ -21,11 +21,11 @@ pub fn plan(alloc: Global, needs: &[u64], blocks: u32) -> Result<Plan, NoMemory>
     ensures least { IfOk result (λ plan. (other : List (List ℕ)) → is_plan blocks needs.now other ≡ true → plan.fetches ≤ cost other) }
 {
     let places = next_places(alloc, needs)?;
-    let mut held = Occupied::new(alloc, blocks);
+    let mut held = Occupied::new(alloc, blocks, needs.len())?;
     let mut fetches = 0;
     let mut leave = Vec::with_capacity(alloc, needs.len())?;
     for (place, block) in needs.iter().enumerate() {
-        let met = held.meet(place, *block, places[place], needs.len())?;
+        let met = held.meet(place, *block, places[place])?;
         if met.fetched {
             fetches += 1;
         }

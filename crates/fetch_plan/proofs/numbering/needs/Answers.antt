@@ -1,7 +1,6 @@
 use Rattle.std.proofs.Common.{◌≡◌, ℕ, suc, ◌+◌, ◌<◌, length, List, [], ◌∷◌, drop, get_or, refl, sym, ◌∙◌, ap, subst, drop-cons, add-one}
-use Rattle.std.proofs.lemmas.List.{drop_all}
 use Rattle.trace_text.specs.declared.trace_line.TraceLine.{TraceLine}
-use Rattle.fetch_plan.proofs.Noting.{InLines, line_goes_on, lines_end}
+use Rattle.fetch_plan.proofs.Noting.{InLines, line_goes_on}
 use Rattle.fetch_plan.proofs.numbering.needs.Goals as goal
 
 -- the lines from one on

@@ -1,4 +1,4 @@
-use Rattle.std.proofs.Common.{◌≡◌, ℕ, ◌+◌, ◌<◌, ◌≤◌, true, List, [], ◌∷◌, ◌++◌, Option, length, drop, get_or, sym, ap, ◌∙◌, subst, arith, drop-cons, add-one, add-zero, length-drop}
+use Rattle.std.proofs.Common.{◌≡◌, ℕ, ◌+◌, ◌<◌, ◌≤◌, true, List, [], ◌∷◌, ◌++◌, Option, length, drop, get_or, refl, sym, ap, ◌∙◌, subst, arith, drop-cons, add-one, add-zero}
 use Rattle.std.proofs.lemmas.List.{drop_all}
 use Rattle.fetch_plan.proofs.Counts.{one-le}
 use Rattle.fetch_plan.specs.Plans.{is_plan, plan_of, leaves, leaving, after, one, distance}
@@ -9,12 +9,12 @@ use Rattle.fetch_plan.proofs.planning.plan.Goals.{then-met, else-met}
 
 pub loop-place-init : goal.loop-place-init
 loop-place-init c = record {
-  blocks = c.new-held.ensures.blocks;
+  blocks = c.in_ok-held.ensures.blocks;
   few = omega arith;
   so_far = (
     [],
-    subst (λ l. Progress c.args.blocks c.args.needs.now c.new-held.result 0 l 0 c.args.needs.now []) (sym c.in_ok-leave.ensures.items)
-        (progress_starts c.args.blocks c.args.needs.now c.new-held.result (c.new-held.ensures.holds 0 c.args.needs.now)),
+    subst (λ l. Progress c.args.blocks c.args.needs.now c.in_ok-held.held 0 l 0 c.args.needs.now []) (sym c.in_ok-leave.ensures.items)
+        (progress_starts c.args.blocks c.args.needs.now c.in_ok-held.held (c.in_ok-held.ensures.holds c.args.needs.now refl)),
   );
 }
 
@@ -44,8 +44,7 @@ loop-place-preserved c =
     let size : length c.in_ok-places.places.items ≡ length needs = omega (arith, c.in_ok-places.places.ok, c.in_ok-places.ensures.size) in
     let next : c.index.result.now ≡ place + 1 + distance rest x =
     c.index.ensures ∙ get_or_any c.in_ok-places.places.items place c.index.result.now 0 (omega arith) ∙ c.in_ok-places.ensures.next place within in
-    let end : length needs ≡ place + 1 + length rest = omega (arith, length-drop (place + 1) needs) in
-    let is = c.in_ok-met.ensures.met rest held before.holds next end in
+    let is = c.in_ok-met.ensures.met rest held before.holds next in
     let now = progress_goes_on blocks needs c.loop-place.held new place leave fetches x rest held met c.loop-place.invariant.blocks before is in
     let paid : c.if-met.fetches ≡ fetches + one met.fetched =
     elim c.if-met.branch [
