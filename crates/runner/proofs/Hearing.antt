@@ -93,5 +93,3 @@ store-finished c (finish.Dropped spot) old new is keeps fails counts =
 store-finished c (finish.Fault spot) old new is keeps fails counts =
     fetched-so (in_flight c) spot Failed old new (ap (λ (d : Option BlockSpot). flight_of d c.queue) is)
     (λ out err. record { may = inr (inr refl); store = finished-log true old new keeps (λ e. fails) counts; out = refl; err = refl })
-
-

@@ -58,8 +58,8 @@ gathers-ended w r q cache staged goes same g = subst (λ (o : OwnSide). Gathers 
           address = g.address;
           planned = g.planned;
           some = g.some;
-      more = g.more;
-      few = g.few;
+          more = g.more;
+          few = g.few;
           staged_are = g.staged_are;
           demanded = g.demanded;
         }))

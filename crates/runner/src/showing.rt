@@ -101,6 +101,13 @@ impl Runner {
         self.notes.as_slice()
     }
 
+    /// The bytes that the last move's put took.
+    pub fn text(&self) -> &[u8]
+        ensures { (w : World) (r : Run) → Shows self.now w r → result.now ≡ r.text }
+    {
+        &self.staging[..self.text.min(self.staging.len())]
+    }
+
     /// What the shadow is doing.
     pub fn shadow(&self) -> ShadowState
         ensures { (w : World) (r : Run) → Shows self.now w r → result ≡ r.shadow.state }

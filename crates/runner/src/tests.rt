@@ -27,12 +27,21 @@ fn runner_of(alloc: Global) -> Result<Runner, Fail> {
     }
     let mem = Mem::new(alloc, layout, words)?;
     let hart = Hart::new(TEXT, View::Program);
-    Ok(Runner::new(
-        alloc,
-        hart,
-        mem,
-        Files::new(TEXT + 4096, TEXT + 8192),
-    )?)
+    Ok(Runner::new(alloc, hart, mem, Files::new(TEXT + 4096, TEXT + 8192))?)
+}
+
+// One move of a runner that has made few.
+fn turn(
+    runner: &mut Runner,
+    step: Move,
+    store: &mut MemStore,
+    sinks: &mut (MemSink, MemSink),
+) -> Option<Turn> {
+    if runner.moves() < 100 {
+        Some(runner.go(step, store, &mut sinks.0, &mut sinks.1))
+    } else {
+        None
+    }
 }
 
 // With no page spare nothing moves; then one instruction completes, and the next word is missing. The
@@ -42,11 +51,12 @@ fn one_instruction_and_the_end(rt: HostRuntime) -> Result<(), Fail> {
     let alloc = rt.alloc();
     let mut runner = runner_of(alloc)?;
     let mut store = MemStore::new(alloc, Vec::new(alloc));
-    let mut out = MemSink::new(alloc, 0, Vec::new(alloc), Vec::new(alloc))?;
-    let mut err = MemSink::new(alloc, 0, Vec::new(alloc), Vec::new(alloc))?;
+    let out = MemSink::new(alloc, 0, Vec::new(alloc), Vec::new(alloc))?;
+    let err = MemSink::new(alloc, 0, Vec::new(alloc), Vec::new(alloc))?;
+    let mut sinks = (out, err);
     let end = Turn::Ended(End::Trap(Trap::FetchOut, TEXT + 4));
-    let starved = runner.go(Move::O, &mut store, &mut out, &mut err);
-    assert!(rt; starved == Turn::NoMemory);
+    let starved = turn(&mut runner, Move::O, &mut store, &mut sinks);
+    assert!(rt; starved == Some(Turn::NoMemory));
     runner.reserve(17)?;
     let rows = [
         (Move::O, Turn::Went),
@@ -56,11 +66,9 @@ fn one_instruction_and_the_end(rt: HostRuntime) -> Result<(), Fail> {
         (Move::O, end),
         (Move::D, end),
     ];
-    for (step, turn) in &rows {
-        if runner.moves() < 100 {
-            let told = runner.go(*step, &mut store, &mut out, &mut err);
-            assert!(rt; told == *turn);
-        }
+    for (step, wanted) in &rows {
+        let told = turn(&mut runner, *step, &mut store, &mut sinks);
+        assert!(rt; told == Some(*wanted));
     }
     assert!(rt; runner.own_done() == 1);
     assert!(rt; runner.moves() == 5);

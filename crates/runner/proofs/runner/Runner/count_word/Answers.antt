@@ -8,19 +8,19 @@ use Rattle.runner.proofs.runner.Runner.count_word.Goals as goal
 pub returns-clause-shows : goal.returns-clause-shows
 unfolding space_of_run
 returns-clause-shows c w r h =
-          record {
-            space = h.space;
-            own = h.own;
-            shadow = h.shadow;
-            sizes = h.sizes;
-            cache = h.cache;
-            counts =
-                c.use_regions.ensures
-                ∙ ap (λ (n : ℕ). most_regions n c.args.self.now.counts) (c.regions_in_use.ensures ∙ ap (λ (s : Space). slots_in_use s.shared) h.space)
-                ∙ ap (λ (k : Counted). most_regions (slots_in_use r.shared) k) h.counts;
-            ahead = h.ahead;
-            whole = h.whole;
-            end = h.end;
-            notes = h.notes;
-            text = h.text;
-          }
+    record {
+      space = h.space;
+      own = h.own;
+      shadow = h.shadow;
+      sizes = h.sizes;
+      cache = h.cache;
+      counts =
+          c.use_regions.ensures
+          ∙ ap (λ (n : ℕ). most_regions n c.args.self.now.counts) (c.regions_in_use.ensures ∙ ap (λ (s : Space). slots_in_use s.shared) h.space)
+          ∙ ap (λ (k : Counted). most_regions (slots_in_use r.shared) k) h.counts;
+      ahead = h.ahead;
+      whole = h.whole;
+      end = h.end;
+      notes = h.notes;
+      text = h.text;
+    }
