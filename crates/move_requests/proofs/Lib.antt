@@ -1,0 +1,4 @@
+pub mod Deaf
+pub mod Looks
+pub mod Snoc
+pub mod Heard

@@ -1,0 +1,4 @@
+pub mod Asked
+pub mod Offers
+pub mod Hears
+pub mod Laws

@@ -1,0 +1,4 @@
+pub mod Moved
+pub mod Arrivals
+pub mod Hearing
+pub mod Filled

@@ -1,0 +1,3 @@
+pub mod Shows
+pub mod ShadowGoes
+pub mod Goes

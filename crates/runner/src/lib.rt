@@ -1,0 +1,11 @@
+//! The runner of rewritten programs.
+#![tactic(auto)]
+
+mod calling;
+mod fetching;
+mod moving;
+mod runner;
+mod shadow;
+mod shadow_move;
+
+pub use runner::Runner;

@@ -1,0 +1,10 @@
+pub mod Plans
+pub mod Harts
+pub mod Finishes
+pub mod Idle
+pub mod Blocks
+pub mod Staged
+pub mod NeededBlocks
+pub mod ReadFronts
+pub mod Saying
+pub mod FilledReads

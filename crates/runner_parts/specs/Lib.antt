@@ -1,0 +1,12 @@
+pub mod Counts
+pub mod Parts
+pub mod Plans
+pub mod Answers
+pub mod OwnCalls
+pub mod Idle
+pub mod Staged
+pub mod Gathers
+pub mod Heard
+pub mod Turns
+pub mod Requests
+pub mod Fillings

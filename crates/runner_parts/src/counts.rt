@@ -1,0 +1,181 @@
+//! The counts of a run.
+
+ghost use Rattle.std.specs.Prelude.{◌≡◌, ◌+◌, ◌<◌, ◌≤◌, ◌==◌, ◌^◌};
+ghost use Rattle.run_model.specs.OwnMoves.{stays_behind};
+ghost use Rattle.runner_parts.specs.Counts.{AreBelow, no_counts, one_move, more_moves, one_arrival, one_done, one_restart, one_hint, one_stall, one_read, most_regions};
+
+use std::marker::Model;
+
+/// The counts over a run, and those since the last restart. None is above the moves.
+#[derive(Clone, Copy, Debug)]
+pub struct Counts {
+    moves: u64,
+    own_done: u64,
+    stalls: u64,
+    restarts: u64,
+    matched: u64,
+    hints: u64,
+    regions_most: u64,
+    own_since: u64,
+    shadow_since: u64,
+}
+
+impl Model for Counts {
+    ghost use Rattle.runner_parts.specs.Counts.{Counted, AreFew};
+
+    ghost Value = { Counted };
+
+    ghost view = { λ c. record {
+      moves = c.moves;
+      own_done = c.own_done;
+      stalls = c.stalls;
+      restarts = c.restarts;
+      matched = c.matched;
+      hints = c.hints;
+      regions_most = c.regions_most;
+      own_since = c.own_since;
+      shadow_since = c.shadow_since;
+    } };
+
+    ghost invariant = { λ c. AreFew (record {
+      moves = c.moves;
+      own_done = c.own_done;
+      stalls = c.stalls;
+      restarts = c.restarts;
+      matched = c.matched;
+      hints = c.hints;
+      regions_most = c.regions_most;
+      own_since = c.own_since;
+      shadow_since = c.shadow_since;
+    }) };
+
+    ghost inverse = { λ c. record {
+      moves = c.moves;
+      own_done = c.own_done;
+      stalls = c.stalls;
+      restarts = c.restarts;
+      matched = c.matched;
+      hints = c.hints;
+      regions_most = c.regions_most;
+      own_since = c.own_since;
+      shadow_since = c.shadow_since;
+    } };
+}
+
+impl Counts {
+    /// Before the first move.
+    pub fn new() -> Counts
+        ensures { result ≡ no_counts }
+    {
+        Counts {
+            moves: 0,
+            own_done: 0,
+            stalls: 0,
+            restarts: 0,
+            matched: 0,
+            hints: 0,
+            regions_most: 0,
+            own_since: 0,
+            shadow_since: 0,
+        }
+    }
+
+    /// How many moves were made.
+    pub fn moves(&self) -> u64
+        ensures { result ≡ self.now.moves }
+    {
+        self.moves
+    }
+
+    /// A move begins: no other count has come to it.
+    pub fn begin(&mut self)
+        requires { self.old.moves < 2 ^ 63 }
+        ensures value { self.new ≡ one_move self.old }
+        ensures below { AreBelow self.new }
+    {
+        self.moves += 1;
+    }
+
+    /// So many moves in which nothing else is counted.
+    pub fn pass(&mut self, moves: u64)
+        requires { self.old.moves + moves ≤ 2 ^ 63 }
+        ensures { self.new ≡ more_moves moves self.old }
+    {
+        self.moves += moves;
+    }
+
+    /// The shadow arrives at a block.
+    pub fn arrive(&mut self)
+        requires { self.old.shadow_since < self.old.moves }
+        ensures { self.new ≡ one_arrival self.old }
+    {
+        self.shadow_since += 1;
+    }
+
+    /// The own hart completes an instruction.
+    pub fn complete(&mut self)
+        requires few { self.old.own_done < self.old.moves }
+        requires since { self.old.own_since < self.old.moves }
+        ensures { self.new ≡ one_done self.old }
+    {
+        self.own_done += 1;
+        self.own_since += 1;
+    }
+
+    /// Whether the own hart has completed no more instructions since the restart than the shadow.
+    pub fn stays_behind(&self) -> bool
+        ensures { result ≡ stays_behind self.now.restarts self.now.own_since self.now.shadow_since }
+    {
+        self.restarts == 0 || self.own_since <= self.shadow_since
+    }
+
+    /// Whether the shadow was never restarted.
+    pub fn never_restarted(&self) -> bool
+        ensures { result ≡ (self.now.restarts == 0) }
+    {
+        self.restarts == 0
+    }
+
+    /// The shadow is restarted.
+    pub fn restart(&mut self)
+        requires { AreBelow self.old }
+        ensures { self.new ≡ one_restart self.old }
+    {
+        self.restarts += 1;
+        self.own_since = 0;
+        self.shadow_since = 0;
+    }
+
+    /// The shadow gives a hint.
+    pub fn hint(&mut self)
+        requires { self.old.hints < self.old.moves }
+        ensures { self.new ≡ one_hint self.old }
+    {
+        self.hints += 1;
+    }
+
+    /// The own hart waits for a block.
+    pub fn stall(&mut self)
+        requires { self.old.stalls < self.old.moves }
+        ensures { self.new ≡ one_stall self.old }
+    {
+        self.stalls += 1;
+    }
+
+    /// A read is performed, for which the shadow was restarted or not.
+    pub fn read(&mut self, asked: bool)
+        requires { self.old.matched < self.old.moves }
+        ensures { self.new ≡ one_read asked self.old }
+    {
+        if !asked {
+            self.matched += 1;
+        }
+    }
+
+    /// So many regions are in use.
+    pub fn use_regions(&mut self, used: u64)
+        ensures { self.new ≡ most_regions used self.old }
+    {
+        self.regions_most = self.regions_most.max(used);
+    }
+}
