@@ -1,3 +1,4 @@
 pub mod Shows
 pub mod ShadowGoes
 pub mod Goes
+pub mod Opens

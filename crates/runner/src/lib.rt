@@ -4,6 +4,8 @@
 mod calling;
 mod fetching;
 mod moving;
+mod new;
+mod opening;
 mod runner;
 mod shadow;
 mod shadow_move;
