@@ -1,10 +1,11 @@
 //! A runner before its first move.
 
-ghost use Rattle.std.specs.Prelude.{[], IfOk};
+ghost use Rattle.std.specs.Prelude.{◌≡◌, [], IfOk};
 ghost use Rattle.run_model.specs.Run.{World};
 ghost use Rattle.run_model.specs.Moves.{run};
 ghost use Rattle.run_laws.specs.OwnLaws.{Accepted};
 ghost use Rattle.run_loader.specs.Opening.{ShowsFirst};
+ghost use Rattle.runner_parts.specs.Counts.{no_counts};
 ghost use Rattle.runner.specs.Shows.{Shows};
 
 use crate::runner::Runner;
@@ -27,7 +28,8 @@ const READ_BYTES: usize = 69_632;
 impl Runner {
     // A program before the first move of its run, whose shadow was never started.
     pub(crate) fn new(alloc: Global, opened: Opened) -> Result<Runner, NoMemory>
-        ensures { IfOk result (λ runner. (w : World) → Accepted w → ShowsFirst w opened → Shows runner w (run w [])) }
+        ensures shows { IfOk result (λ runner. (w : World) → Accepted w → ShowsFirst w opened → Shows runner w (run w [])) }
+        ensures counts { IfOk result (λ runner. runner.counts ≡ no_counts) }
     {
         let cache = Cache::new(alloc, CACHED_BLOCKS, QUEUED_BLOCKS)?;
         let staging = vec![in alloc; 0; READ_BYTES]?;

@@ -1,7 +1,8 @@
 //! The opening of a rewritten file by a runner.
 
-ghost use Rattle.std.specs.Prelude.{◌≤◌, ◌+◌, length, map, string_bytes};
+ghost use Rattle.std.specs.Prelude.{◌≡◌, ◌≤◌, ◌+◌, length, map, string_bytes, IfOk};
 ghost use Rattle.std.specs.List.{sum_by};
+ghost use Rattle.runner_parts.specs.Counts.{no_counts};
 ghost use Rattle.runner.specs.Opens.{OpensAs};
 
 use crate::runner::Runner;
@@ -16,7 +17,8 @@ impl Runner {
     pub fn open(alloc: Global, file: &[u8], arguments: &[String]) -> Result<Runner, OpenFault>
         requires few { length arguments.now ≤ 64 }
         requires short { sum_by (λ word. length word + 1) (map string_bytes arguments.now) ≤ 65_536 }
-        ensures { OpensAs file.now (map string_bytes arguments.now) result }
+        ensures answer { OpensAs file.now (map string_bytes arguments.now) result }
+        ensures counts { IfOk result (λ runner. runner.counts ≡ no_counts) }
     {
         let opened = match open(alloc, file, arguments) {
             Ok(opened) => opened,

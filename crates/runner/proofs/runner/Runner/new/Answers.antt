@@ -1,6 +1,5 @@
-use Rattle.std.proofs.Common.{◌≡◌, [], false, inl, refl, sym, ap, subst}
+use Rattle.std.proofs.Common.{[], inl, refl, sym, ap, subst}
 use Rattle.run_model.specs.Moves.{run_from}
-use Rattle.run_laws.specs.OwnLaws.{Accepted}
 use Rattle.program_model.specs.Descriptors.{Descriptors}
 use Rattle.cache_queue.specs.State.{CacheState, lists}
 use Rattle.cache_queue.specs.Finishes.{TrueTo}
@@ -9,9 +8,9 @@ use Rattle.mark_laws.specs.Sizes.{TrueSizes}
 use Rattle.mark_laws.proofs.Sizes.{sizes_are_true}
 use Rattle.runner.proofs.runner.Runner.new.Goals as goal
 
-pub returns : goal.returns
+pub returns-clause-shows : goal.returns-clause-shows
 unfolding run_from
-returns c = λ w a first. record {
+returns-clause-shows c = λ w a first. record {
   space = first.own.space;
   own = record { hart = first.own.hart; side = refl; files_are = first.files; asked_is = refl; stalled_is = refl; gathered_is = refl };
   shadow = record {

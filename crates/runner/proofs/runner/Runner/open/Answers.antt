@@ -4,16 +4,16 @@ use Rattle.file_world.specs.Promises.{world_again}
 use Rattle.run_loader.proofs.Undamaged.{undamaged-front}
 use Rattle.runner.proofs.runner.Runner.open.Goals as goal
 
-pub returns-in-Ok-new : goal.returns-in-Ok-new
-returns-in-Ok-new c = (
+pub returns-in-Ok-new-clause-answer : goal.returns-in-Ok-new-clause-answer
+returns-in-Ok-new-clause-answer c = (
   c.in-Ok.ensures.answer.0,
   λ files are. record {
     accepted = c.in-Ok.ensures.laws files are;
     shows =
-        c.in-Ok-new.ensures (world_again c.args.file.now (carried c.args.file.now) (map string_bytes c.args.arguments.now) files)
+        c.in-Ok-new.ensures.shows (world_again c.args.file.now (carried c.args.file.now) (map string_bytes c.args.arguments.now) files)
         (c.in-Ok.ensures.laws files are) (c.in-Ok.ensures.answer.1 files);
   },
 )
 
-pub returns-in-Err-new : goal.returns-in-Err-new
-returns-in-Err-new c = undamaged-front c.args.file.now c.in-Ok.ensures.answer.0
+pub returns-in-Err-new-clause-answer : goal.returns-in-Err-new-clause-answer
+returns-in-Err-new-clause-answer c = undamaged-front c.args.file.now c.in-Ok.ensures.answer.0
