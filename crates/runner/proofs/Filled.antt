@@ -1,8 +1,6 @@
 -- The run whose shadow's read is filled, or isn't.
-use Rattle.std.proofs.Common.{◌≡◌, ◌≢◌, ℕ, zero, suc, ◌-◌, ◌<◌, Bool, true, false, ◌&&◌, List, length, refl, sym, ap, ◌∙◌, arith}
-use Rattle.spec_base.specs.declared.note.Note.{Note}
+use Rattle.std.proofs.Common.{◌≡◌, ℕ, zero, suc, ◌-◌, ◌<◌, Bool, true, false, refl, ap, ◌∙◌, arith}
 use Rattle.spec_base.specs.declared.spot.ReadSpot.{ReadSpot}
-use Rattle.rv_model.specs.Space.{Space}
 use Rattle.program_model.specs.Calls.{bytes_read}
 use Rattle.run_model.specs.Run.{World, Run}
 use Rattle.run_model.specs.ShadowMoves.{fill, fill_if, is_filled}

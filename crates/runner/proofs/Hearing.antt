@@ -1,16 +1,14 @@
 -- What a store was asked, and what it said.
-use Rattle.std.proofs.Common.{◌≡◌, ℕ, Bool, true, false, not, List, [], ◌∷◌, length, Option, Some, None, IfSome, inl, inr, refl, sym, ap, subst, ◌∙◌}
-use Rattle.std.specs.Prelude.{is_none}
+use Rattle.std.proofs.Common.{◌≡◌, ℕ, Bool, true, false, List, [], ◌∷◌, length, Option, Some, None, IfSome, inl, inr, refl, sym, ap, subst}
 use Rattle.std.specs.Option.{option_map}
 use Rattle.std.proofs.lemmas.List.Elements.{All-nil, All-cons, All-head}
 use Rattle.spec_base.specs.Files.{Name, Files}
 use Rattle.spec_base.specs.declared.spot.BlockSpot.{BlockSpot}
-use Rattle.program_model.specs.Calls.{CallPlan, Set, Look as LookFor, Read, Write, Exit}
 use Rattle.program_model.specs.Cache.{Cache, in_flight, flight_of}
 use Rattle.program_model.specs.PlainRun.{size_in}
 use Rattle.run_model.specs.Run.{Answer, Usual, Failed, Lost}
-use Rattle.world_io.specs.Outside.{StoreState, SinkState, KeepsFiles, Rose, Counts}
-use Rattle.world_io.specs.Logs.{StoreLog, Offer}
+use Rattle.world_io.specs.Outside.{StoreState, KeepsFiles, Rose, Counts}
+use Rattle.world_io.specs.Logs.{StoreLog}
 use Rattle.world_io.specs.Looks.{LookSays, look_failed}
 use Rattle.world_io.specs.declared.store.Look.{Look}
 use Rattle.world_io.specs.declared.store.Look.TheVariants as look
@@ -18,10 +16,9 @@ use Rattle.world_io.proofs.Stores.{none-StoreLog, call-StoreLog, look-StoreLog}
 use Rattle.cache_queue.specs.Finishes.{IsOf, FinishFails, FinishCounts}
 use Rattle.cache_queue.specs.declared.finish.Finished.{Finished}
 use Rattle.cache_queue.specs.declared.finish.Finished.TheVariants as finish
-use Rattle.move_requests.specs.Asked.{Asked, Nothing, Looks, Fetches, Puts, assuming_asks, fetching_asks, asks_if}
-use Rattle.move_requests.specs.Offers.{offers_in}
+use Rattle.move_requests.specs.Asked.{Asked, Nothing, Looks, Fetches, fetching_asks, asks_if}
 use Rattle.runner_parts.specs.Answers.{failed_if, finish_answer}
-use Rattle.runner_parts.specs.Heard.{Said, Sized, IsTrueOf, AreTrueOf, said_by_look}
+use Rattle.runner_parts.specs.Heard.{Sized, IsTrueOf, AreTrueOf, said_by_look}
 use Rattle.runner.specs.ShadowGoes.{StoreAnswers}
 
 -- ---- nothing

@@ -1,4 +1,12 @@
 pub mod Moved
+pub mod Outside
+pub mod Words
+pub mod Puts
+pub mod OwnMoves
 pub mod Arrivals
 pub mod Hearing
 pub mod Filled
+pub mod ShadowPlans
+pub mod ShadowSteps
+pub mod FetchSteps
+pub mod MovesMade

@@ -1,4 +1,6 @@
 pub mod Shows
+pub mod OwnGoes
 pub mod ShadowGoes
+pub mod Fetches
 pub mod Goes
 pub mod Opens

@@ -1,5 +1,5 @@
 -- What a word of the shadow, or a part of one, does to a runner (this project's own).
-use Rattle.std.specs.Prelude.{◌≡◌, Bool, true, false, Option, Some, None, List}
+use Rattle.std.specs.Prelude.{◌≡◌, Bool, false, Option, Some, None, List}
 use Rattle.spec_base.specs.Files.{Files}
 use Rattle.spec_base.specs.declared.note.Move.{Move}
 use Rattle.spec_base.specs.declared.note.ShadowState.TheVariants.{Running}
@@ -58,6 +58,7 @@ StoreAnswers asked x old new = (out err : SinkState) → IsAnswered asked x (bes
 
 -- a planned call is assumed
 pub record Assumes (v u : Runner) (unhinted : Bool) (plan : CallPlan) (old new : StoreState) : Type 0 where
+  pub files : new.files ≡ old.files
   pub answer : Answer
   pub said : List Said
   pub told : (files : Files) → old.files ≡ Some files → AreTrueOf files said
@@ -68,6 +69,7 @@ pub record Assumes (v u : Runner) (unhinted : Bool) (plan : CallPlan) (old new :
 
 -- a word of a running shadow is made
 pub record MakesWord (v u : Runner) (old new : StoreState) : Type 0 where
+  pub files : new.files ≡ old.files
   pub answer : Answer
   pub said : List Said
   pub told : (files : Files) → old.files ≡ Some files → AreTrueOf files said
@@ -76,6 +78,7 @@ pub record MakesWord (v u : Runner) (old new : StoreState) : Type 0 where
 
 -- a move of a run that goes on, which asks nothing of the sinks
 pub record MakesStep (m : Move) (v u : Runner) (old new : StoreState) : Type 0 where
+  pub files : new.files ≡ old.files
   pub answer : Answer
   pub said : List Said
   pub told : (files : Files) → old.files ≡ Some files → AreTrueOf files said

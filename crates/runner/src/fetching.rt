@@ -1,19 +1,18 @@
 //! A fetch finishes.
 
-ghost use Rattle.std.specs.Prelude.{◌≡◌, None, Some, take};
-ghost use Rattle.spec_base.specs.Files.{Files};
+ghost use Rattle.std.specs.Prelude.{◌≡◌, ◌+◌, ◌<◌, ◌^◌, None, is_none};
+ghost use Rattle.spec_base.specs.declared.note.Move.TheVariants as move;
+ghost use Rattle.program_model.specs.Cache.{in_flight};
 ghost use Rattle.world_io.specs.Outside.{KeepsFiles};
-ghost use Rattle.run_model.specs.Run.{World, Run};
-ghost use Rattle.run_model.specs.Moves.{fetch_step};
 ghost use Rattle.cache_queue.specs.State.{lists};
 ghost use Rattle.cache_queue.specs.Finishes.{IsOf, FinishFails, FinishCounts};
-ghost use Rattle.runner_parts.specs.Answers.{finish_answer};
-ghost use Rattle.runner_parts.specs.Heard.{AreTrueOf, said_by_finish};
-ghost use Rattle.runner.specs.Shows.{Shows};
+ghost use Rattle.runner_parts.specs.Turns.{turn_if, turn_after};
+ghost use Rattle.runner.specs.Fetches.{Finishes};
+ghost use Rattle.runner.specs.ShadowGoes.{MakesStep};
 
 use crate::runner::Runner;
 use cache_queue::Finished;
-use runner_parts::{finish_beside, tell_finish};
+use runner_parts::{Turn, finish_beside, tell_finish, turn_of_finish};
 use world_io::Store;
 
 impl Runner {
@@ -22,15 +21,45 @@ impl Runner {
     fn finish_queued<D: Store>(&mut self, store: &mut D) -> Finished
         requires idle { self.old.cache.demanded ≡ None }
         ensures block { IsOf (lists self.old.cache) result }
-        ensures told { (files : Files) → (D.state store.old).files ≡ Some files → AreTrueOf files (said_by_finish result (take 4096 self.new.filling.items)) }
-        ensures shows { (w : World) (r : Run) → Shows self.old w r → AreTrueOf w.files (said_by_finish result (take 4096 self.new.filling.items))
-            → Shows self.new w (fetch_step w (finish_answer result) r) }
+        ensures finishes { Finishes self.old self.new (D.state store.old) result }
         ensures keeps { KeepsFiles (D.state store.old) (D.state store.new) }
         ensures failed { FinishFails (D.state store.old).faults result (D.state store.new).faults }
         ensures number { FinishCounts (D.state store.old) result (D.state store.new) }
+        ensures moves { self.new.counts.moves ≡ self.old.counts.moves }
     {
         let finished = finish_beside(&mut self.cache, store, &mut self.filling);
         tell_finish(&mut self.notes, &finished);
         finished
+    }
+
+    // Finishes the fetch in flight.
+    fn finish_any<D: Store>(&mut self, store: &mut D) -> Finished
+        requires on { self.old.end ≡ None }
+        requires quiet { self.old.text ≡ 0 }
+        ensures block { IsOf (lists self.old.cache) result }
+        ensures finishes { Finishes self.old self.new (D.state store.old) result }
+        ensures keeps { KeepsFiles (D.state store.old) (D.state store.new) }
+        ensures failed { FinishFails (D.state store.old).faults result (D.state store.new).faults }
+        ensures number { FinishCounts (D.state store.old) result (D.state store.new) }
+        ensures moves { self.new.counts.moves ≡ self.old.counts.moves }
+    {
+        if self.stalled {
+            self.finish_demanded(store)
+        } else {
+            self.finish_queued(store)
+        }
+    }
+
+    // A move D of a run that goes on.
+    pub(crate) fn fetch_move<D: Store>(&mut self, store: &mut D) -> Turn
+        requires on { self.old.end ≡ None }
+        requires few { self.old.counts.moves < 2 ^ 63 }
+        ensures turn { result ≡ turn_if (is_none (in_flight (lists self.old.cache))) (turn_after self.new.end) }
+        ensures moves { self.new.counts.moves ≡ self.old.counts.moves + 1 }
+        ensures makes { MakesStep move.D self.old self.new (D.state store.old) (D.state store.new) }
+    {
+        self.begin();
+        let finished = self.finish_any(store);
+        turn_of_finish(&finished, &self.end)
     }
 }

@@ -16,6 +16,7 @@ impl Runner {
         ensures quiet { self.new.text ≡ 0 }
         ensures silent { self.new.notes ≡ [] }
         ensures state { self.new.state ≡ self.old.state }
+        ensures cache { self.new.cache ≡ self.old.cache }
         ensures end { self.new.end ≡ self.old.end }
         ensures stalled { self.new.stalled ≡ self.old.stalled }
         ensures own { (self.new.own ≡ self.old.own) × (self.new.mem ≡ self.old.mem) }
@@ -32,6 +33,7 @@ impl Runner {
         ensures quiet { self.new.text ≡ 0 }
         ensures silent { self.new.notes ≡ [] }
         ensures state { self.new.state ≡ self.old.state }
+        ensures cache { self.new.cache ≡ self.old.cache }
         ensures end { self.new.end ≡ self.old.end }
         ensures stalled { self.new.stalled ≡ self.old.stalled }
         ensures moves { self.new.counts.moves ≡ self.old.counts.moves + 1 }

@@ -32,6 +32,7 @@ impl Runner {
     fn arrive(&mut self)
         requires since { self.old.counts.shadow_since < self.old.counts.moves }
         ensures shows { (w : World) (r : Run) → Shows self.old w r → Shows self.new w (arrived w.image.layout r) }
+        ensures moves { self.new.counts.moves ≡ self.old.counts.moves }
     {
         if arrives(&self.state, &self.shadow, &self.mem) {
             self.counts.arrive();
@@ -41,6 +42,7 @@ impl Runner {
     // A word is counted.
     fn count_word(&mut self)
         ensures shows { (w : World) (r : Run) → Shows self.old w r → Shows self.new w (word_counted r) }
+        ensures moves { self.new.counts.moves ≡ self.old.counts.moves }
     {
         self.counts.use_regions(regions_in_use(&self.mem));
     }
@@ -49,6 +51,7 @@ impl Runner {
     pub(crate) fn end_word(&mut self)
         requires since { self.old.counts.shadow_since < self.old.counts.moves }
         ensures shows { (w : World) (r : Run) → Shows self.old w r → Shows self.new w (word_counted (arrived w.image.layout r)) }
+        ensures moves { self.new.counts.moves ≡ self.old.counts.moves }
     {
         self.arrive();
         self.count_word();
@@ -57,6 +60,7 @@ impl Runner {
     // A word of the shadow ends by parking it.
     fn park_word(&mut self, cause: Park)
         ensures shows { (w : World) (r : Run) → Shows self.old w r → Shows self.new w (word_counted (parked r cause)) }
+        ensures moves { self.new.counts.moves ≡ self.old.counts.moves }
     {
         self.park(cause);
         self.count_word();
@@ -83,6 +87,7 @@ impl Runner {
     pub(crate) fn shadow_word(&mut self) -> Option<bool>
         requires since { self.old.counts.shadow_since < self.old.counts.moves }
         ensures word { (w : World) (r : Run) → Accepted w → Shows self.old w r → r.shadow.state ≡ Running → WordTold result self.new w r }
+        ensures moves { self.new.counts.moves ≡ self.old.counts.moves }
         ensures kept { result ≢ None → (self.new.counts ≡ self.old.counts) × (self.new.notes ≡ self.old.notes) }
     {
         match self.step_shadow() {

@@ -1,6 +1,6 @@
 //! A move of the shadow.
 
-ghost use Rattle.std.specs.Prelude.{◌≡◌, ◌<◌, ◌^◌, [], None, not, true};
+ghost use Rattle.std.specs.Prelude.{◌≡◌, ◌+◌, ◌<◌, ◌^◌, ◌||◌, [], None, not};
 ghost use Rattle.spec_base.specs.declared.note.Move.TheVariants as move;
 ghost use Rattle.run_model.specs.ShadowMoves.{is_running};
 ghost use Rattle.runner_parts.specs.Counts.{AreBelow};
@@ -16,7 +16,8 @@ impl Runner {
     fn shadow_turn<D: Store>(&mut self, store: &mut D)
         requires begun { AreBelow self.old.counts }
         requires quiet { self.old.notes ≡ [] }
-        ensures { MakesWord self.old self.new (D.state store.old) (D.state store.new) }
+        ensures makes { MakesWord self.old self.new (D.state store.old) (D.state store.new) }
+        ensures moves { self.new.counts.moves ≡ self.old.counts.moves }
     {
         match self.shadow_word() {
             Some(unhinted) => {
@@ -32,6 +33,7 @@ impl Runner {
         requires on { self.old.end ≡ None }
         requires few { self.old.counts.moves < 2 ^ 63 }
         ensures turn { result ≡ turn_if (not (is_running self.old.state)) (turn_after self.new.end) }
+        ensures moves { self.new.counts.moves ≡ self.old.counts.moves + 1 }
         ensures makes { MakesStep move.S self.old self.new (D.state store.old) (D.state store.new) }
     {
         self.begin();
@@ -40,5 +42,20 @@ impl Runner {
         }
         self.shadow_turn(store);
         turn_after(&self.end)
+    }
+
+    // A move T of a run that goes on: a word of the shadow while the own hart waits.
+    pub(crate) fn stalled_move<D: Store>(&mut self, store: &mut D) -> Turn
+        requires on { self.old.end ≡ None }
+        requires few { self.old.counts.moves < 2 ^ 63 }
+        ensures turn { result ≡ turn_if (not self.old.stalled || not (is_running self.old.state)) (turn_after self.new.end) }
+        ensures moves { self.new.counts.moves ≡ self.old.counts.moves + 1 }
+        ensures makes { MakesStep move.T self.old self.new (D.state store.old) (D.state store.new) }
+    {
+        if !self.stalled {
+            self.begin();
+            return Turn::Idle;
+        }
+        self.shadow_move(store)
     }
 }

@@ -30,6 +30,14 @@ finish_notes notes (LostBlock spot) = note.Lost spot ∷ []
 finish_notes notes (Dropped spot) = note.Drop spot ∷ []
 finish_notes notes (Fault spot) = note.Fault ∷ []
 
+-- whether nothing was in flight
+abbrev pub is_nothing : Finished → Bool
+is_nothing Nothing = true
+is_nothing (Put spot) = false
+is_nothing (LostBlock spot) = false
+is_nothing (Dropped spot) = false
+is_nothing (Fault spot) = false
+
 -- whether a plan of the code is a read
 abbrev pub is_read : PlannedCall → Bool
 is_read (plan.Read spot address) = true

@@ -178,4 +178,60 @@ impl Counts {
     {
         self.regions_most = self.regions_most.max(used);
     }
+
+    /// How many instructions the own hart has completed.
+    pub fn own_done(&self) -> u64
+        ensures { result ≡ self.now.own_done }
+    {
+        self.own_done
+    }
+
+    /// How often the own hart came to wait.
+    pub fn stalls(&self) -> u64
+        ensures { result ≡ self.now.stalls }
+    {
+        self.stalls
+    }
+
+    /// How often the shadow was restarted.
+    pub fn restarts(&self) -> u64
+        ensures { result ≡ self.now.restarts }
+    {
+        self.restarts
+    }
+
+    /// How many reads were performed without a restart.
+    pub fn matched(&self) -> u64
+        ensures { result ≡ self.now.matched }
+    {
+        self.matched
+    }
+
+    /// How many hints the shadow gave.
+    pub fn hints(&self) -> u64
+        ensures { result ≡ self.now.hints }
+    {
+        self.hints
+    }
+
+    /// The most regions that were in use after a word of the shadow.
+    pub fn regions_most(&self) -> u64
+        ensures { result ≡ self.now.regions_most }
+    {
+        self.regions_most
+    }
+
+    /// How many instructions the own hart has completed since the last restart.
+    pub fn own_since(&self) -> u64
+        ensures { result ≡ self.now.own_since }
+    {
+        self.own_since
+    }
+
+    /// How many blocks the shadow has arrived at since then.
+    pub fn shadow_since(&self) -> u64
+        ensures { result ≡ self.now.shadow_since }
+    {
+        self.shadow_since
+    }
 }

@@ -7,13 +7,14 @@ ghost use Rattle.spec_base.specs.declared.spot.BlockSpot.{BlockSpot};
 ghost use Rattle.world_io.specs.Outside.{KeepsFiles};
 ghost use Rattle.cache_queue.specs.State.{lists};
 ghost use Rattle.cache_queue.specs.Finishes.{IsOf, finished, FinishFails, FinishCounts, TrueTo};
-ghost use Rattle.runner_parts.specs.Answers.{finish_notes, waits_after, had_after, end_after};
+ghost use Rattle.runner_parts.specs.Answers.{finish_notes, is_nothing, waits_after, had_after, end_after};
 ghost use Rattle.runner_parts.specs.Heard.{AreTrueOf, said_by_finish};
 ghost use Rattle.runner_parts.specs.Parts.{end_of_run};
 ghost use Rattle.runner_parts.specs.Staged.{joined, StandsBehind};
+ghost use Rattle.runner_parts.specs.Turns.{turn_if, turn_after};
 
 use crate::notes::Notes;
-use crate::turn::End;
+use crate::turn::{End, Turn, turn_after};
 use cache_queue::{Cache, Finished};
 use spec_base::Note;
 use world_io::{BLOCK, Store};
@@ -102,5 +103,15 @@ pub fn end_of_finish(finished: &Finished) -> Option<End>
     match finished {
         Finished::Fault(_) => Some(End::Store),
         _ => None,
+    }
+}
+
+/// What a finish comes to as a move, by how the run has ended in it, if it has.
+pub fn turn_of_finish(finished: &Finished, end: &Option<End>) -> Turn
+    ensures { result ≡ turn_if (is_nothing finished.now) (turn_after end.now) }
+{
+    match finished {
+        Finished::Nothing => Turn::Idle,
+        _ => turn_after(end),
     }
 }

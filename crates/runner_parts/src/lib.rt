@@ -14,6 +14,8 @@ mod putting;
 mod reading;
 mod restarting;
 mod shadow;
+#[cfg(test)]
+mod tests;
 mod turn;
 
 pub use assuming::{
@@ -21,7 +23,7 @@ pub use assuming::{
 };
 pub use counts::Counts;
 pub use fetching::{
-    blocks_had, end_of_finish, finish_at, finish_beside, still_waits, tell_finish,
+    blocks_had, end_of_finish, finish_at, finish_beside, still_waits, tell_finish, turn_of_finish,
 };
 pub use filling::fill_held;
 pub use gathering::need_rest;

@@ -1,5 +1,4 @@
-use Rattle.std.proofs.Common.{◌≡◌, ℕ, ℤ, [], ◌∷◌, Option, Some, None, refl, sym, ap, subst, ◌∙◌}
-use Rattle.program_model.specs.Descriptors.{Descriptors}
+use Rattle.std.proofs.Common.{◌≡◌, ℕ, [], ◌∷◌, Option, Some, None, sym, subst}
 use Rattle.program_model.specs.Calls.{opened}
 use Rattle.program_model.specs.PlainRun.{size_in}
 use Rattle.run_model.specs.Run.{Usual, Failed}
@@ -13,6 +12,7 @@ use Rattle.runner.proofs.runner.Runner.assume_look.Goals as goal
 pub returns-in-Found-clause-looks : goal.returns-in-Found-clause-looks
 returns-in-Found-clause-looks g c unhinted =
     record {
+      files = c.in-Found.ensures.keeps.files;
       answer = Usual;
       said = Sized c.args.name.now (Some c.in-Found.size) ∷ [];
       told = look-told _ c.args.name.now (look.Found c.in-Found.size) c.in-Found.ensures.told;
@@ -26,6 +26,7 @@ returns-in-Found-clause-looks g c unhinted =
 pub returns-in-Absent-clause-looks : goal.returns-in-Absent-clause-looks
 returns-in-Absent-clause-looks g c unhinted =
     record {
+      files = c.in-Absent.ensures.keeps.files;
       answer = Usual;
       said = Sized c.args.name.now None ∷ [];
       told = look-told _ c.args.name.now look.Absent c.in-Absent.ensures.told;
@@ -39,6 +40,7 @@ returns-in-Absent-clause-looks g c unhinted =
 pub returns-in-Failed-clause-looks : goal.returns-in-Failed-clause-looks
 returns-in-Failed-clause-looks g c unhinted =
     record {
+      files = c.in-Failed.ensures.keeps.files;
       answer = Failed;
       said = [];
       told = look-told _ c.args.name.now look.Failed c.in-Failed.ensures.told;

@@ -5,11 +5,9 @@ use Rattle.machine_laws.specs.OneMachine.{space_of_run}
 use Rattle.runner_parts.specs.Counts.{Counted, most_regions}
 use Rattle.runner.proofs.runner.Runner.count_word.Goals as goal
 
-pub returns : goal.returns
+pub returns-clause-shows : goal.returns-clause-shows
 unfolding space_of_run
-returns c =
-    record {
-      shows = λ w r h.
+returns-clause-shows c w r h =
           record {
             space = h.space;
             own = h.own;
@@ -25,5 +23,4 @@ returns c =
             end = h.end;
             notes = h.notes;
             text = h.text;
-          };
-    }
+          }

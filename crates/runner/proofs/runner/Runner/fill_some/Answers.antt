@@ -1,7 +1,4 @@
-use Rattle.std.proofs.Common.{◌≡◌, ◌-◌, ◌++◌, Bool, List, sym, ap, subst, ◌∙◌}
-use Rattle.spec_base.specs.declared.layout.Layout.{Layout}
-use Rattle.spec_base.specs.declared.note.Note.{Note}
-use Rattle.rv_model.specs.Memory.{Memory}
+use Rattle.std.proofs.Common.{◌≡◌, ◌-◌, Bool, sym, subst, ◌∙◌}
 use Rattle.rv_model.specs.Space.{Space}
 use Rattle.code_model.specs.Tables.{AreConsistent}
 use Rattle.program_model.specs.Calls.{bytes_read}

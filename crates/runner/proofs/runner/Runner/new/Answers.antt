@@ -1,5 +1,4 @@
 use Rattle.std.proofs.Common.{[], inl, refl, sym, ap, subst}
-use Rattle.run_model.specs.Moves.{run_from}
 use Rattle.program_model.specs.Descriptors.{Descriptors}
 use Rattle.cache_queue.specs.State.{CacheState, lists}
 use Rattle.cache_queue.specs.Finishes.{TrueTo}
@@ -9,18 +8,17 @@ use Rattle.mark_laws.proofs.Sizes.{sizes_are_true}
 use Rattle.runner.proofs.runner.Runner.new.Goals as goal
 
 pub returns-clause-shows : goal.returns-clause-shows
-unfolding run_from
 returns-clause-shows c = λ w a first. record {
-  space = first.own.space;
-  own = record { hart = first.own.hart; side = refl; files_are = first.files; asked_is = refl; stalled_is = refl; gathered_is = refl };
+  space = first.space_is;
+  own = record { hart = first.hart; side = refl; files_are = first.files_are; asked_is = refl; stalled_is = refl; gathered_is = refl };
   shadow = record {
     view = ap (λ (k : Core). k.view) c.new-shadow.ensures;
     registers = ap (λ (k : Core). k.registers) c.new-shadow.ensures;
     pc = ap (λ (k : Core). k.pc) c.new-shadow.ensures;
-    files_are = first.files;
+    files_are = first.files_are;
     state_is = refl;
   };
-  sizes = subst (λ (f : Descriptors). TrueSizes w.files f) (sym first.files) (sizes_are_true w a []).own;
+  sizes = subst (λ (f : Descriptors). TrueSizes w.files f) (sym first.files_are) (sizes_are_true w a []).own;
   cache = record {
     lists_are = ap lists c.in_ok-cache.ensures;
     most = ap (λ (k : CacheState). k.blocks.most) c.in_ok-cache.ensures;
