@@ -1,4 +1,5 @@
 use Rattle.std.proofs.Common.{[], inl, refl, sym, ap, subst}
+use Rattle.run_model.specs.Moves.{run_from}
 use Rattle.program_model.specs.Descriptors.{Descriptors}
 use Rattle.cache_queue.specs.State.{CacheState, lists}
 use Rattle.cache_queue.specs.Finishes.{TrueTo}
@@ -8,6 +9,7 @@ use Rattle.mark_laws.proofs.Sizes.{sizes_are_true}
 use Rattle.runner.proofs.runner.Runner.new.Goals as goal
 
 pub returns-clause-shows : goal.returns-clause-shows
+unfolding run_from
 returns-clause-shows c = λ w a first. record {
   space = first.space_is;
   own = record { hart = first.hart; side = refl; files_are = first.files_are; asked_is = refl; stalled_is = refl; gathered_is = refl };
