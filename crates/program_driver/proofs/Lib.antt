@@ -1,0 +1,7 @@
+mod Rounding
+mod Driven
+mod Lining
+mod Traced
+mod Turning
+mod SinkEnds
+mod Reported
