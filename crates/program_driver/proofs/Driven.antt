@@ -18,9 +18,9 @@ use Rattle.move_requests.proofs.Heard.{nothing_is_heard, next_is_heard}
 use Rattle.runner_parts.specs.Heard.{Said, IsTrueOf, AreTrueOf}
 use Rattle.runner.specs.Shows.{Shows}
 use Rattle.runner.specs.declared.runner.Runner.{Runner}
-use Rattle.program_driver.specs.Schedules.{GoesOn, AreMade, StandsAs}
+use Rattle.run_promises.specs.Schedules.{GoesOn, AreMade, StandsAs, MovesTo}
 use Rattle.program_driver.specs.Advances.{Advances, Goes, Leads, HasEnding, ending_of, is_starved}
-use Rattle.program_driver.specs.Runs.{Drives, DrivesTo}
+use Rattle.program_driver.specs.Runs.{Drives}
 use Rattle.program_driver.proofs.Rounding.{front, turns-length}
 
 -- ---- what the store said
@@ -183,7 +183,7 @@ module _
       }
 
   -- a move that ends the run, or that there was no memory for
-  pub ended-Drives : (ending : Ending) → Advances m (Some ending) now new here after → Drives (DrivesTo pattern turns ending) old new before after
+  pub ended-Drives : (ending : Ending) → Advances m (Some ending) now new here after → Drives (MovesTo pattern turns ending) old new before after
   ended-Drives ending (inl starves) =
       record {
         moves = log.ms;
@@ -220,7 +220,7 @@ module _
 -- all moves are made
 pub over-Drives : (pattern : Pattern) (turns : ℕ) (old now : Runner) (before here : Outside) (count : ℕ) → IsPattern pattern
     → DriveLog pattern turns [] old now before here → ((w : World) (r : Run) → Shows now w r → count ≡ r.own_done)
-    → Drives (DrivesTo pattern turns (TurnsOver count)) old now before here
+    → Drives (MovesTo pattern turns (TurnsOver count)) old now before here
 over-Drives pattern turns old now before here count p log counted =
     record {
       moves = log.ms;

@@ -3,5 +3,5 @@ mod Driven
 mod Lining
 mod Traced
 mod Turning
-mod SinkEnds
+mod Bottomless
 mod Reported

@@ -10,11 +10,12 @@ use Rattle.plain_runner.specs.Runs.{Outside}
 use Rattle.plain_runner.specs.declared.ending.Ending.{Ending}
 use Rattle.runner.specs.Shows.{Shows}
 use Rattle.runner.specs.declared.runner.Runner.{Runner}
+use Rattle.run_promises.specs.Schedules.{MovesTo}
 use Rattle.program_driver.specs.Lines.{LinesTo, ending_with}
-use Rattle.program_driver.specs.Runs.{Drives, DrivesTo, RunsTo, counts_of, is_reported, report_lines}
+use Rattle.program_driver.specs.Runs.{Drives, RunsTo, counts_of, is_reported, report_lines}
 use Rattle.program_driver.specs.declared.lines.LineFault.{LineFault}
 
-module _ (pattern : Pattern) (turns : ℕ) (asked : Bool) (reached : Ending) (old new : Runner) (before after : Outside) (drives : Drives (DrivesTo pattern turns reached) old new before after) where
+module _ (pattern : Pattern) (turns : ℕ) (asked : Bool) (reached : Ending) (old new : Runner) (before after : Outside) (drives : Drives (MovesTo pattern turns reached) old new before after) where
   -- there is no report
   pub silent-Drives : is_reported asked reached ≡ false → Drives (RunsTo pattern turns asked reached) old new before after
   silent-Drives silent =
@@ -28,7 +29,7 @@ module _ (pattern : Pattern) (turns : ℕ) (asked : Bool) (reached : Ending) (ol
                 reached = reached;
                 between = after.err;
                 answer = Ok tt;
-                drives = h.0;
+                moves = h.0;
                 reports = subst (λ b. LinesTo (report_lines b (run w drives.moves)) (Ok tt) after.err after.err) (sym silent) refl;
                 ends = refl;
               },
@@ -51,7 +52,7 @@ module _ (pattern : Pattern) (turns : ℕ) (asked : Bool) (reached : Ending) (ol
                 reached = reached;
                 between = after.err;
                 answer = answer;
-                drives = h.0;
+                moves = h.0;
                 reports = subst (λ b. LinesTo (report_lines b (run w drives.moves)) answer after.err err) (sym told) (lines w (run w drives.moves) h.1);
                 ends = refl;
               },

@@ -1,5 +1,5 @@
 -- Fronts of the moves of a repeated pattern.
-use Rattle.std.proofs.Common.{◌≡◌, ◌≢◌, ◌-◌, ℕ, zero, suc, ◌≤◌, ◌<◌, List, [], ◌∷◌, ◌++◌, length, refl, ap, ap₂, sym, subst, arith}
+use Rattle.std.proofs.Common.{◌≡◌, ◌≢◌, ◌-◌, ℕ, zero, suc, ◌≤◌, ◌<◌, List, [], ◌∷◌, ◌++◌, length, refl, ap, ap₂, sym, ◌∙◌, subst, arith}
 use Rattle.std.specs.Prelude.{replicate}
 use Rattle.std.proofs.lemmas.List.Elements.{All-head, All-tail}
 use Rattle.spec_base.specs.declared.note.Move.{Move}
@@ -50,6 +50,10 @@ turns-length ((m, zero) ∷ items) n p = absurd (none (All-head (λ item. IsBetw
     none : 1 ≤ 0 → ⊥
     none h = omega (arith, h)
 turns-length ((m, suc c) ∷ items) n p = rounds-length m (replicate c m ++ one_round items) [] n
+
+-- moves that are all those of a pattern
+pub all-length : (pattern : Pattern) (n : ℕ) (moves : List Move) → IsPattern pattern → moves ≡ pattern_moves pattern n → length moves ≡ n
+all-length pattern n moves p e = ap length e ∙ turns-length pattern n p
 
 -- ---- the next move
 

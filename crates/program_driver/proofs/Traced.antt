@@ -21,12 +21,13 @@ use Rattle.move_requests.proofs.Heard.{nothing_is_heard}
 use Rattle.runner_parts.specs.Heard.{IsTrueOf, AreTrueOf}
 use Rattle.runner.specs.Shows.{Shows}
 use Rattle.runner.specs.declared.runner.Runner.{Runner}
-use Rattle.program_driver.specs.Schedules.{StandsAs}
+use Rattle.run_promises.specs.Schedules.{GoesOn, AreMade, StandsAs, MovesTo}
 use Rattle.program_driver.specs.Advances.{Advances, HasEnding, ending_of, is_starved}
 use Rattle.program_driver.specs.Lines.{ArePut, LinesTo, note_lines, fault_ending, ending_with}
 use Rattle.program_driver.specs.declared.lines.LineFault.{LineFault}
 use Rattle.program_driver.specs.Runs.{Drives}
 use Rattle.program_driver.specs.Traces.{told_line, trace_lines, last_lines, turns_lines, all_lines, TellsTo, all, in_move, at_turns, over_bottomless, TracesTo, move_ending, TellsNothing, TellsMove, TracesMove}
+use Rattle.program_driver.proofs.Bottomless.{no-sink-fault}
 use Rattle.program_driver.proofs.Driven.{made-AreMade, made-all, DriveLog, OneMore, goes-OneMore, schedule-one, ended-stands, no-memory, both}
 use Rattle.program_driver.proofs.Lining.{append-ArePut}
 
@@ -85,11 +86,19 @@ stands-so : (turns : ℕ) (ms : Moves) (r : Run) (ending : Option Ending) → Ha
 stands-so turns ms r None h = h
 stands-so turns ms r (Some ending) h = ended-stands turns ms r h.0 ending h.1 h.2
 
--- ---- the loop
+-- ---- the whole
 
 -- the outcome of a trace, with what it leaves
 abbrev pub with_err : SinkState → StoreState → SinkState → Outside
 with_err err store out = record { store = store; out = out; err = err }
+
+as-TracesTo : (w : World) → Accepted w → (pattern : Pattern) (turns : ℕ) (reached ending : Ending) (ms : Moves) (store after : StoreState) (out out_after err : SinkState)
+    → MovesTo pattern turns reached w ms (over_bottomless store) (over_bottomless after) → TellsTo w ms reached ending out out_after
+    → TracesTo pattern turns ending w ms (with_err err store out) (with_err err after out_after)
+as-TracesTo w acc pattern turns reached ending ms store after out out_after err moves tells =
+    record { reached = reached; moves = moves; no_fault = no-sink-fault w acc pattern turns reached ms store after moves; out = tells; err = refl }
+
+-- ---- the loop
 
 -- the moves still to come, those that were made, and their lines
 pub record TraceLog (pattern : Pattern) (turns : ℕ) (left : List Move) (old now : Runner) (store : StoreState) (out : SinkState) (store_now : StoreState) (out_now : SinkState) : Type 0 where
@@ -179,15 +188,14 @@ module _
           told = log.drives.told;
           went = λ w acc shows holds. (
               let has = log.drives.went w acc shows holds in (
-                record {
-                  reached = NoMemory;
+                as-TracesTo w acc pattern turns NoMemory ending ms store after out out_after err
+                (record {
                   made = made-AreMade w pattern turns ms (m ∷ left) log.drives.schedule has.made;
                   stands = has.goes;
                   heard = subst (AreHeard w ms (over_bottomless store)) (sym starves.untouched) has.heard;
-                  out = all is (subst (λ s. ArePut out (all_lines w ms NoMemory) s) (sym untouched)
-                      (subst (λ lines. ArePut out lines out_here) (sym (append-nil (trace_lines w ms))) (log.puts w acc shows holds)));
-                  err = refl;
-                },
+                })
+                (all is (subst (λ s. ArePut out (all_lines w ms NoMemory) s) (sym untouched)
+                      (subst (λ lines. ArePut out lines out_here) (sym (append-nil (trace_lines w ms))) (log.puts w acc shows holds)))),
                 starves.shows w (run w ms) has.shows,
               ));
         }
@@ -237,14 +245,13 @@ module _
           told = one.told;
           went = λ w acc shows holds. (
               let last = one.went w acc shows holds in (
-                record {
-                  reached = stand_of reached;
+                as-TracesTo w acc pattern turns (stand_of reached) ending ms store after out out_after err
+                (record {
                   made = made-AreMade w pattern turns ms left (schedule-one pattern turns old now new (over_bottomless store) (over_bottomless here) (over_bottomless after) m left log.drives one.x) last.made;
                   stands = stands-so turns ms (run w ms) reached last.ends;
                   heard = last.heard;
-                  out = told-by reached one.x w answer last.ends e (log.puts w acc shows (one.sooner w.files holds)) (lines w (run w ms) last.shows);
-                  err = refl;
-                },
+                })
+                (told-by reached one.x w answer last.ends e (log.puts w acc shows (one.sooner w.files holds)) (lines w (run w ms) last.shows)),
                 last.shows,
               ));
         }
@@ -279,14 +286,13 @@ over-Drives pattern turns old now store here out out_here out_after err own shad
           let has = log.drives.went w acc shows holds in
           let r : Run = run w ms in
           let line : turns_line_of own shadow ≡ turns_line_of r.own_done r.since.shadow = ap₂ turns_line_of (owns w r has.shows) (shadows w r has.shows) in (
-            record {
-              reached = TurnsOver own;
+            as-TracesTo w acc pattern turns (TurnsOver own) (ending_with (TurnsOver own) answer) ms store here out out_after err
+            (record {
               made = made-AreMade w pattern turns ms [] log.drives.schedule has.made;
               stands = (has.goes, made-all pattern turns ms p log.drives.schedule, owns w r has.shows);
               heard = has.heard;
-              out = turns-told w ms own out out_here out_after answer (log.puts w acc shows holds) (subst (λ l. LinesTo (l ∷ []) answer out_here out_after) line lines);
-              err = refl;
-            },
+            })
+            (turns-told w ms own out out_here out_after answer (log.puts w acc shows holds) (subst (λ l. LinesTo (l ∷ []) answer out_here out_after) line lines)),
             has.shows,
           ));
     }

@@ -51,7 +51,7 @@ goes-Advances old between m turn new before after shows made =
           record {
             hears = on.hears;
             shows = on.shows;
-            ends = subst (λ t. HasEnding (step w (run w ms) (m, made.answer)) (ending_after t)) (sym on.turn_is) (turn-HasEnding w (run w ms) m made.answer going);
+            ends = subst (λ t. HasEnding (step w (run w ms) (m, made.answer)) (ending_after t)) (sym on.turn) (turn-HasEnding w (run w ms) m made.answer going);
           });
     })
 

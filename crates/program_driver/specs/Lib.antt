@@ -1,5 +1,4 @@
 pub mod Rounds
-pub mod Schedules
 pub mod Advances
 pub mod Lines
 pub mod Runs

@@ -11,11 +11,10 @@ use Rattle.world_io.specs.Outside.{SinkState}
 use Rattle.plain_runner.specs.Runs.{Outside}
 use Rattle.plain_runner.specs.declared.ending.Ending.{Ending}
 use Rattle.plain_runner.specs.declared.ending.Ending.TheVariants.{Exited, Trapped, TurnsOver, StoreFault, SinkFault, NoMemory}
-use Rattle.move_requests.specs.Hears.{AreHeard}
 use Rattle.runner_parts.specs.Heard.{Said, AreTrueOf}
 use Rattle.runner.specs.Shows.{Shows}
 use Rattle.runner.specs.declared.runner.Runner.{Runner}
-use Rattle.program_driver.specs.Schedules.{AreMade, StandsAs}
+use Rattle.run_promises.specs.Schedules.{MovesTo}
 use Rattle.program_driver.specs.Lines.{Line, LinesTo, ending_with}
 use Rattle.program_driver.specs.declared.lines.LineFault.{LineFault}
 
@@ -31,14 +30,6 @@ pub record Drives (go : Going) (old new : Runner) (before after : Outside) : Typ
   pub said : List Said
   pub told : (files : Files) → before.store.files ≡ Some files → AreTrueOf files said
   pub went : (w : World) → Accepted w → Shows old w (opened_run w) → AreTrueOf w.files said → go w moves before after × Shows new w (run w moves)
-
--- ---- the moves of a pattern
-
--- at most so many moves of a pattern were made over a store and two sinks, and came to this ending. Each put of the program is one put on its sink, of the same bytes
-pub record DrivesTo (pattern : Pattern) (turns : ℕ) (ending : Ending) (w : World) (ms : Moves) (old new : Outside) : Type 0 where
-  pub made : AreMade w pattern turns ms
-  pub stands : StandsAs turns ms (run w ms) ending
-  pub heard : AreHeard w ms old new
 
 -- ---- the report
 
@@ -76,6 +67,6 @@ pub record RunsTo (pattern : Pattern) (turns : ℕ) (report : Bool) (ending : En
   pub reached : Ending
   pub between : SinkState
   pub answer : Result (Unit {0}) LineFault
-  pub drives : DrivesTo pattern turns reached w ms old (record new { err = between })
+  pub moves : MovesTo pattern turns reached w ms old (record new { err = between })
   pub reports : LinesTo (report_lines (is_reported report reached) (run w ms)) answer between new.err
   pub ends : ending ≡ ending_with reached answer

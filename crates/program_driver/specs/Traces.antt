@@ -1,5 +1,5 @@
 -- What a trace does: the moves of a pattern over a store, and the lines of what they tell (this project's own).
-use Rattle.std.specs.Prelude.{◌≡◌, ◌⊎◌, ℕ, true, false, List, [], ◌∷◌, ◌++◌, map, Option, Some, Result, Ok, Err}
+use Rattle.std.specs.Prelude.{◌≡◌, ◌≢◌, ◌⊎◌, ℕ, true, false, List, [], ◌∷◌, ◌++◌, map, Option, Some, Result, Ok, Err}
 use Rattle.spec_base.specs.declared.note.Move.{Move}
 use Rattle.trace_text.specs.Line.{line_of, turns_line_of}
 use Rattle.run_model.specs.Run.{World, Run, Answer}
@@ -10,12 +10,11 @@ use Rattle.world_io.specs.Outside.{SinkState, StoreState, Endless, untold_sink}
 use Rattle.plain_runner.specs.Runs.{Outside}
 use Rattle.plain_runner.specs.declared.ending.Ending.{Ending}
 use Rattle.plain_runner.specs.declared.ending.Ending.TheVariants.{Exited, Trapped, TurnsOver, StoreFault, SinkFault, NoMemory}
-use Rattle.move_requests.specs.Hears.{AreHeard}
 use Rattle.runner.specs.Shows.{Shows}
 use Rattle.runner.specs.declared.runner.Runner.{Runner}
 use Rattle.program_driver.specs.Advances.{Advances, is_starved}
 use Rattle.program_driver.specs.Lines.{Line, ArePut, PutsSome, LinesTo, note_lines, fault_ending}
-use Rattle.program_driver.specs.Schedules.{AreMade, StandsAs}
+use Rattle.run_promises.specs.Schedules.{MovesTo}
 use Rattle.program_driver.specs.declared.lines.LineFault.{LineFault}
 
 -- ---- the lines
@@ -69,12 +68,11 @@ bottomless = untold_sink Endless 0
 abbrev pub over_bottomless : StoreState → Outside
 over_bottomless store = record { store = store; out = bottomless; err = bottomless }
 
--- at most so many moves of a pattern were made over a store, with each put of the program taken whole, and their lines went to standard output
+-- at most so many moves of a pattern were made over a store, with each put of the program taken whole, and their lines went to standard output. No put of the program fails
 pub record TracesTo (pattern : Pattern) (turns : ℕ) (ending : Ending) (w : World) (ms : Moves) (old new : Outside) : Type 0 where
   pub reached : Ending
-  pub made : AreMade w pattern turns ms
-  pub stands : StandsAs turns ms (run w ms) reached
-  pub heard : AreHeard w ms (over_bottomless old.store) (over_bottomless new.store)
+  pub moves : MovesTo pattern turns reached w ms (over_bottomless old.store) (over_bottomless new.store)
+  pub no_fault : reached ≢ SinkFault
   pub out : TellsTo w ms reached ending old.out new.out
   pub err : new.err ≡ old.err
 

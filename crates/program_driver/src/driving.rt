@@ -2,7 +2,8 @@
 
 ghost use Rattle.std.specs.Prelude.{◌≡◌, ◌≤◌, ◌+◌, ◌^◌};
 ghost use Rattle.command_words.specs.Limits.{IsPattern};
-ghost use Rattle.program_driver.specs.Runs.{Drives, DrivesTo};
+ghost use Rattle.run_promises.specs.Schedules.{MovesTo};
+ghost use Rattle.program_driver.specs.Runs.{Drives};
 
 use crate::advancing::advance;
 use crate::schedule::Schedule;
@@ -24,7 +25,7 @@ pub fn drive<D: Store, O: Sink, E: Sink>(
 ) -> Ending
     requires pattern { IsPattern pattern.now }
     requires few { runner.old.counts.moves + turns ≤ 2 ^ 63 }
-    ensures { Drives (DrivesTo pattern.now turns result) runner.old runner.new
+    ensures { Drives (MovesTo pattern.now turns result) runner.old runner.new
         (record { store = D.state store.old; out = O.state out.old; err = E.state err.old })
         (record { store = D.state store.new; out = O.state out.new; err = E.state err.new }) }
 {

@@ -7,6 +7,8 @@ mod driving;
 mod lines;
 mod reporting;
 mod schedule;
+#[cfg(test)]
+mod tests;
 mod tracing;
 
 pub use driving::drive;

@@ -1,7 +1,7 @@
 use Rattle.std.proofs.Common.{◌≡◌, ◌∙◌, ◌∷◌, length, ap, sym, subst, arith}
 use Rattle.run_model.specs.Patterns.{pattern_moves}
 use Rattle.plain_runner.specs.Runs.{Outside}
-use Rattle.program_driver.proofs.Rounding.{turns-length, shorter}
+use Rattle.program_driver.proofs.Rounding.{all-length, shorter}
 use Rattle.program_driver.proofs.Driven.{DriveLog, first-DriveLog, next-DriveLog, ended-Drives, over-Drives}
 use Rattle.program_driver.proofs.driving.drive.Goals as goal
 
@@ -9,7 +9,7 @@ pub loop-step-init : goal.loop-step-init
 loop-step-init g c =
     let o : Outside = (record { store = g.D.Store.state c.args.store.now; out = g.O.Sink.state c.args.out.now; err = g.E.Sink.state c.args.err.now }) in
     let all : c.into_iter-step-iterator.result ≡ pattern_moves c.args.pattern.now c.args.turns = c.into_iter-step-iterator.ensures.into_iter_gives ∙ c.new-step-items.ensures in
-    let count : length c.into_iter-step-iterator.result ≡ c.args.turns = ap length all ∙ turns-length c.args.pattern.now c.args.turns c.requires.pattern in
+    let count : length c.into_iter-step-iterator.result ≡ c.args.turns = all-length c.args.pattern.now c.args.turns c.into_iter-step-iterator.result c.requires.pattern all in
     record {
       can = tt;
       finite = tt;

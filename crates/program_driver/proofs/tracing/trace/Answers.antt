@@ -3,14 +3,14 @@ use Rattle.trace_text.specs.Line.{turns_line_of}
 use Rattle.run_model.specs.Patterns.{pattern_moves}
 use Rattle.program_driver.specs.Runs.{Drives}
 use Rattle.program_driver.specs.Traces.{TracesTo}
-use Rattle.program_driver.proofs.Rounding.{turns-length, shorter}
+use Rattle.program_driver.proofs.Rounding.{all-length, shorter}
 use Rattle.program_driver.proofs.Traced.{with_err, TraceLog, first-TraceLog, next-TraceLog, ended-Drives, over-Drives}
 use Rattle.program_driver.proofs.tracing.trace.Goals as goal
 
 pub loop-step-init : goal.loop-step-init
 loop-step-init g c =
     let all : c.into_iter-step-iterator.result ≡ pattern_moves c.args.pattern.now c.args.turns = c.into_iter-step-iterator.ensures.into_iter_gives ∙ c.new-step-items.ensures in
-    let count : length c.into_iter-step-iterator.result ≡ c.args.turns = ap length all ∙ turns-length c.args.pattern.now c.args.turns c.requires.pattern in
+    let count : length c.into_iter-step-iterator.result ≡ c.args.turns = all-length c.args.pattern.now c.args.turns c.into_iter-step-iterator.result c.requires.pattern all in
     record {
       can = tt;
       finite = tt;
