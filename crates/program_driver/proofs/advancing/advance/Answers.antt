@@ -1,0 +1,12 @@
+use Rattle.std.proofs.Common.{inl, refl, sym, subst}
+use Rattle.program_driver.specs.Advances.{Advances}
+use Rattle.program_driver.proofs.Turning.{turn-Advances}
+use Rattle.program_driver.proofs.advancing.advance.Goals as goal
+
+pub returns-then-not-keep_spare-clause-advances : goal.returns-then-not-keep_spare-clause-advances
+returns-then-not-keep_spare-clause-advances g c = inl (record { starved = refl; shows = c.keep_spare.ensures.shows; untouched = refl })
+
+pub returns-clause-advances : goal.returns-clause-advances
+returns-clause-advances g c =
+    subst (λ ending. Advances c.args.step ending c.args.runner.now c.go.new.self (record { store = g.D.Store.state c.args.store.now; out = g.O.Sink.state c.args.out.now; err = g.E.Sink.state c.args.err.now }) (record { store = g.D.Store.state c.go.new.store; out = g.O.Sink.state c.go.new.out; err = g.E.Sink.state c.go.new.err })) (sym c.ending_after.ensures)
+    (turn-Advances c.args.runner.now c.keep_spare.new.runner c.args.step c.go.result c.go.new.self (record { store = g.D.Store.state c.args.store.now; out = g.O.Sink.state c.args.out.now; err = g.E.Sink.state c.args.err.now }) (record { store = g.D.Store.state c.go.new.store; out = g.O.Sink.state c.go.new.out; err = g.E.Sink.state c.go.new.err }) c.keep_spare.ensures.shows c.go.ensures.wants c.go.ensures.makes)

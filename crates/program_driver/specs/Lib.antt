@@ -1,0 +1,5 @@
+pub mod Rounds
+pub mod Advances
+pub mod Lines
+pub mod Runs
+pub mod Traces

@@ -1,0 +1,38 @@
+//! The moves of a pattern.
+
+ghost use Rattle.std.specs.Prelude.{◌≡◌, ◌≤◌, ◌+◌, ◌^◌};
+ghost use Rattle.command_words.specs.Limits.{IsPattern};
+ghost use Rattle.run_promises.specs.Schedules.{MovesTo};
+ghost use Rattle.program_driver.specs.Runs.{Drives};
+
+use crate::advancing::advance;
+use crate::schedule::Schedule;
+use plain_runner::Ending;
+use runner::Runner;
+use spec_base::{List, Move};
+use world_io::{Sink, Store};
+
+/// Makes the moves of a repeated pattern, at most `turns`, over a store and two sinks, up to the first
+/// that ends the run. Before each move pages are reserved, where fewer than 17 are spare; `NoMemory` comes
+/// where that fails.
+pub fn drive<D: Store, O: Sink, E: Sink>(
+    runner: &mut Runner,
+    pattern: &List<(Move, u32)>,
+    turns: u64,
+    store: &mut D,
+    out: &mut O,
+    err: &mut E,
+) -> Ending
+    requires pattern { IsPattern pattern.now }
+    requires few { runner.old.counts.moves + turns ≤ 2 ^ 63 }
+    ensures { Drives (MovesTo pattern.now turns result) runner.old runner.new
+        (record { store = D.state store.old; out = O.state out.old; err = E.state err.old })
+        (record { store = D.state store.new; out = O.state out.new; err = E.state err.new }) }
+{
+    for step in Schedule::new(pattern, turns) {
+        if let Some(ending) = advance(runner, step, store, out, err) {
+            return ending;
+        }
+    }
+    Ending::TurnsOver(runner.own_done())
+}

@@ -1,0 +1,75 @@
+//! Schedules, and lines over a sink that takes a part or fails.
+
+ghost use Rattle.command_words.specs.Limits.{IsPattern};
+
+use crate::lines::{LineFault, put_made};
+use crate::schedule::Schedule;
+use spec_base::{List, Move};
+use std::alloc::Global;
+use std::test::Fail;
+use world_io::MemSink;
+
+// The letters of the first moves of a pattern.
+fn letters(alloc: Global, pattern: &List<(Move, u32)>, turns: u64) -> Result<Vec<u8>, Fail>
+    requires { IsPattern pattern.now }
+{
+    let mut letters = Vec::new(alloc);
+    for step in Schedule::new(pattern, turns) {
+        letters.push(match step {
+            Move::O => b'O',
+            Move::S => b'S',
+            Move::T => b'T',
+            Move::D => b'D',
+        })?;
+    }
+    Ok(letters)
+}
+
+#[test]
+fn a_pattern_is_repeated(rt: HostRuntime) -> Result<(), Fail> {
+    let alloc = rt.alloc();
+    let pattern = List {
+        items: vec![in alloc; (Move::O, 1), (Move::S, 2), (Move::D, 1)]?,
+    };
+    assert_eq!(rt; letters(alloc, &pattern, 0)?.as_slice(), b"");
+    assert_eq!(rt; letters(alloc, &pattern, 2)?.as_slice(), b"OS");
+    assert_eq!(rt; letters(alloc, &pattern, 10)?.as_slice(), b"OSSDOSSDOS");
+    Ok(())
+}
+
+#[test]
+fn a_pattern_of_one_item_is_repeated(rt: HostRuntime) -> Result<(), Fail> {
+    let alloc = rt.alloc();
+    let pattern = List {
+        items: vec![in alloc; (Move::T, 2)]?,
+    };
+    assert_eq!(rt; letters(alloc, &pattern, 5)?.as_slice(), b"TTTTT");
+    Ok(())
+}
+
+// What a sink has of a line of three bytes, and whether that is put whole. The sink takes one byte of
+// the first put, and the puts in `fails` fail.
+fn line_over(alloc: Global, fails: &[u64]) -> Result<(Vec<u8>, Result<(), LineFault>), Fail> {
+    let most = vec![in alloc; 1usize]?;
+    let mut sink = MemSink::new(alloc, 8, fails.to_vec(alloc)?, most)?;
+    let answer = put_made(&mut sink, Ok(b"ab\n".to_vec(alloc)?));
+    Ok((sink.bytes().to_vec(alloc)?, answer))
+}
+
+#[test]
+fn a_line_is_put_until_it_is_whole(rt: HostRuntime) -> Result<(), Fail> {
+    let alloc = rt.alloc();
+    let (bytes, answer) = line_over(alloc, &[])?;
+    assert_eq!(rt; bytes.as_slice(), b"ab\n");
+    assert_eq!(rt; answer, Ok(()));
+    Ok(())
+}
+
+#[test]
+fn a_failed_put_is_the_last(rt: HostRuntime) -> Result<(), Fail> {
+    let alloc = rt.alloc();
+    let (bytes, answer) = line_over(alloc, &[2])?;
+    assert_eq!(rt; bytes.as_slice(), b"a");
+    assert_eq!(rt; answer, Err(LineFault::Sink));
+    Ok(())
+}

@@ -1,0 +1,75 @@
+//! The trace of a run.
+
+ghost use Rattle.std.specs.Prelude.{◌≡◌, ◌≤◌, ◌<◌, ◌+◌, ◌^◌};
+ghost use Rattle.world_io.specs.Outside.{SinkState};
+ghost use Rattle.command_words.specs.Limits.{IsPattern};
+ghost use Rattle.program_driver.specs.Runs.{Drives};
+ghost use Rattle.program_driver.specs.Traces.{TracesTo, TracesMove};
+
+use crate::advancing::{advance, is_starved};
+use crate::lines::{ending_with, fault_ending, put_made, put_notes};
+use crate::schedule::Schedule;
+use plain_runner::Ending;
+use runner::Runner;
+use spec_base::{List, Move};
+use std::alloc::Global;
+use trace_text::turns_line;
+use world_io::{CountSink, Sink, Store};
+
+/// Makes a move, with each put of the program taken whole, and puts the lines of what it tells. Answers
+/// how that ends the run, if it does.
+fn trace_move<D: Store, O: Sink>(
+    alloc: Global,
+    runner: &mut Runner,
+    step: Move,
+    store: &mut D,
+    out: &mut O,
+) -> Option<Ending>
+    requires few { runner.old.counts.moves < 2 ^ 63 }
+    ensures moves { runner.new.counts.moves ≤ runner.old.counts.moves + 1 }
+    ensures files { (D.state store.new).files ≡ (D.state store.old).files }
+    ensures traces { TracesMove step result runner.old runner.new (D.state store.old) (O.state out.old) (D.state store.new) (O.state out.new) }
+{
+    let reached = advance(
+        runner,
+        step,
+        store,
+        &mut CountSink::new(),
+        &mut CountSink::new(),
+    );
+    if is_starved(reached) {
+        return reached;
+    }
+    let (own, shadow) = (runner.own_done(), runner.shadow_done());
+    match put_notes(alloc, own, shadow, runner.notes(), runner.text(), out) {
+        Ok(()) => reached,
+        Err(fault) => Some(fault_ending(fault)),
+    }
+}
+
+/// Makes the moves of a repeated pattern, at most `turns`, over a store, as `drive` does, with each put of
+/// the program taken whole. The lines of what the moves tell go to standard output, each put by itself
+/// until it is whole; where all moves were made and the run would go on, the line of the turns is the last.
+pub fn trace<D: Store, O: Sink>(
+    alloc: Global,
+    runner: &mut Runner,
+    pattern: &List<(Move, u32)>,
+    turns: u64,
+    store: &mut D,
+    out: &mut O,
+) -> Ending
+    requires pattern { IsPattern pattern.now }
+    requires few { runner.old.counts.moves + turns ≤ 2 ^ 63 }
+    ensures { (err : SinkState) → Drives (TracesTo pattern.now turns result) runner.old runner.new
+        (record { store = D.state store.old; out = O.state out.old; err = err })
+        (record { store = D.state store.new; out = O.state out.new; err = err }) }
+{
+    for step in Schedule::new(pattern, turns) {
+        if let Some(ending) = trace_move(alloc, runner, step, store, out) {
+            return ending;
+        }
+    }
+    let (own, shadow) = (runner.own_done(), runner.shadow_done());
+    let answer = put_made(out, turns_line(alloc, own, shadow));
+    ending_with(Ending::TurnsOver(own), answer)
+}
