@@ -26,17 +26,17 @@ joined-words [] = refl
 joined-words (b ∷ blocks) = ap (λ w. map word_of b ++ w) (joined-words blocks) ∙ sym (map-append word_of b (flat_map (λ block. block) blocks))
 
 -- the code of a program's text is what its run's memory has
-record HoldsCode (w : World) (r : Run) (code : Code) : Type 0 where
-  text : code.text ≡ (space_of_run w r).text
-  shadow : code.shadow ≡ (space_of_run w r).shadow
-  helpers : code.helpers ≡ (space_of_run w r).helpers
-  stub : code.stub ≡ (space_of_run w r).stub
+pub record HoldsCode (w : World) (r : Run) (code : Code) : Type 0 where
+  pub text : code.text ≡ (space_of_run w r).text
+  pub shadow : code.shadow ≡ (space_of_run w r).shadow
+  pub helpers : code.helpers ≡ (space_of_run w r).helpers
+  pub stub : code.stub ≡ (space_of_run w r).stub
 
 holds-code : (w : World) (r : Run) → HoldsCode w r (code_of_text w.image.layout w.image.words)
 unfolding code_of_text shadow_words space_of_run
 holds-code w r = record { text = refl; shadow = joined-words (blocks_from w.image.layout w.image.layout.text_start (map instr_of w.image.words)); helpers = refl; stub = refl }
 
-holds-same : (w : World) (r : Run) (code : Code) → code_of_text w.image.layout w.image.words ≡ code → HoldsCode w r code
+pub holds-same : (w : World) (r : Run) (code : Code) → code_of_text w.image.layout w.image.words ≡ code → HoldsCode w r code
 holds-same w r code e = subst (λ (c : Code). HoldsCode w r c) e (holds-code w r)
 
 -- its words have 32 bits

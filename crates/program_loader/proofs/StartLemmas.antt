@@ -1,5 +1,5 @@
 -- The argument and the stack stand in data.
-use Rattle.std.proofs.Common.{◌≡◌, ℕ, zero, suc, ◌+◌, ◌-◌, ◌/◌, ◌<◌, ◌≤◌, Bool, true, false, not, ◌&&◌, nat_le, nat_lt, IsTrue, List, length, Some, refl, ap, ◌∙◌, arith, lit≤}
+use Rattle.std.proofs.Common.{◌≡◌, ℕ, zero, suc, ◌+◌, ◌-◌, ◌/◌, ◌<◌, ◌≤◌, Bool, true, false, not, ◌&&◌, nat_le, nat_lt, IsTrue, List, length, Some, refl, ap, sym, ◌∙◌, arith, lit≤}
 use Rattle.std.proofs.lemmas.Bool.Decides.{nat_tests}
 use Rattle.spec_base.specs.Layout.{range_end, image_limit, is_lawful}
 use Rattle.spec_base.specs.declared.layout.Layout.{Layout}
@@ -10,8 +10,12 @@ use Rattle.rv_model.specs.Rights.{is_data}
 use Rattle.elf_image.specs.Image.{words_at, words_in, file_place, text_words}
 use Rattle.rv_model.specs.Memory.{written}
 use Rattle.rv_model.specs.Space.{Space}
-use Rattle.program_model.specs.Loading.{argument_bytes, arguments_start, stack_start, stack_words, bytes_of_words}
-use Rattle.program_loader.specs.Programs.{start_space}
+use Rattle.program_model.specs.Loading.{Executable, loaded_image, argument_bytes, arguments_start, stack_start, stack_words, bytes_of_words}
+use Rattle.spec_base.specs.declared.machine.View.TheVariants.{Plain}
+use Rattle.program_model.specs.Descriptors.{Descriptors}
+use Rattle.hart_step.specs.Core.{Core}
+use Rattle.plain_runner.specs.Turns.{IsStart}
+use Rattle.program_loader.specs.Programs.{start_space, IsLoaded}
 use Rattle.elf_image.specs.Profile.{code_of}
 use Rattle.elf_image.specs.declared.image.Image.{Image}
 use Rattle.elf_image.specs.declared.segments.Segment.{Segment}
@@ -75,3 +79,24 @@ pub start-is : (s s1 s2 : Space) (arguments : List (List ℕ)) (a st : ℕ) (bs 
 start-is s s1 s2 arguments a st bs cs a-is bs-is st-is cs-is e f =
     f ∙ (ap (λ (m : Space). record m { program = written m.program st cs }) e
     ∙ (λ i. record s { program = written (written s.program (a-is i) (bs-is i)) (st-is i) (cs-is i) }))
+
+-- ---- a program by itself
+
+-- what is loaded for a hart in the Plain view is at its start
+pub starts : (e : Executable) (arguments : List (List ℕ)) (core : Core) (space : Space) (f : Descriptors)
+    → IsLoaded e arguments Plain core space f → IsStart (loaded_image e arguments) core space f
+starts e arguments core space f h =
+    record {
+      shows = record {
+        view = ap (λ (k : Core). k.view) h.core_is;
+        registers = sym (ap (λ (k : Core). k.registers) h.core_is);
+        pc = sym (ap (λ (k : Core). k.pc) h.core_is);
+        memory = sym (ap (λ (s : Space). s.program) h.space_is);
+        files = sym h.files_are;
+        exited = refl;
+        layout = ap (λ (s : Space). s.layout) h.space_is;
+        words = ap (λ (s : Space). s.text) h.space_is;
+      };
+      out = refl;
+      err = refl;
+    }

@@ -7,4 +7,4 @@ mod start;
 #[cfg(test)]
 mod tests;
 
-pub use loading::{Process, load};
+pub use loading::{Process, load, load_in};

@@ -1,13 +1,13 @@
 //! The loading of an image.
 
-ghost use Rattle.std.specs.Prelude.{◌≡◌, ◌≤◌, ◌+◌, ◌-◌, ◌*◌, ◌/◌, length, map, string_bytes, IfOk, IsTrue};
+ghost use Rattle.std.specs.Prelude.{◌≡◌, ◌≤◌, ◌+◌, ◌-◌, ◌*◌, ◌/◌, length, vec_len, map, string_bytes, IfOk, IsTrue};
 ghost use Rattle.std.specs.List.{sum_by};
 ghost use Rattle.spec_base.specs.Layout.{is_lawful};
 ghost use Rattle.program_model.specs.Loading.{stack_start};
 ghost use Rattle.elf_image.specs.Image.{IsImage};
-ghost use Rattle.hart_mem.specs.Held.{space_of};
+ghost use Rattle.hart_mem.specs.Held.{space_of, text_words};
 ghost use Rattle.hart_step.specs.Core.{core_of};
-ghost use Rattle.program_loader.specs.Programs.{plain_layout, executable_of, program_of, parts_space, start_space};
+ghost use Rattle.program_loader.specs.Programs.{plain_layout, executable_in, program_of, parts_space, start_space, IsLoaded};
 ghost use Rattle.plain_runner.specs.Turns.{IsStart};
 
 use crate::parts::load_parts;
@@ -22,7 +22,7 @@ use std::alloc::Global;
 /// A program at its first instruction.
 #[derive(Drop)]
 pub struct Process {
-    /// Its hart, in the Plain view.
+    /// Its hart.
     pub hart: Hart,
     /// Its memory.
     pub mem: Mem,
@@ -42,13 +42,20 @@ fn plain_layout(image: &Image, version: Version) -> Layout
     }
 }
 
-/// A memory with the text and the file parts.
-fn memory_of(alloc: Global, bytes: &[u8], image: &Image, version: Version) -> Result<Mem, NoMemory>
-    requires { IsImage bytes.now version image.now }
-    ensures { IfOk result (λ mem. space_of mem ≡ parts_space (executable_of version bytes.now image.now)) }
+/// A memory of a layout, with a text of these words and the file parts.
+fn memory_of(
+    alloc: Global,
+    bytes: &[u8],
+    image: &Image,
+    layout: Layout,
+    words: Vec<u32>,
+) -> Result<Mem, NoMemory>
+    requires image { IsImage bytes.now layout.version image.now }
+    requires lawful { IsTrue (is_lawful layout) }
+    requires words { vec_len words ≡ text_words layout }
+    ensures { IfOk result (λ mem. space_of mem ≡ parts_space (executable_in layout words.items bytes.now image.now)) }
 {
-    let words = text(alloc, bytes, image)?;
-    let mut mem = Mem::new(alloc, plain_layout(image, version), words)?;
+    let mut mem = Mem::new(alloc, layout, words)?;
     load_parts(&mut mem, bytes, &image.segments.items)?;
     Ok(mem)
 }
@@ -85,8 +92,34 @@ fn write_start(
     Ok(stack)
 }
 
-/// Loads an accepted image with its arguments, of which the first is by custom its name. There are
-/// 64 at most, of 65,536 bytes at most with a zero byte behind each.
+/// Loads an image as a program of this layout, whose text has these words, with a hart in this
+/// view. The arguments are as for [`load`].
+pub fn load_in(
+    alloc: Global,
+    bytes: &[u8],
+    image: &Image,
+    layout: Layout,
+    words: Vec<u32>,
+    view: View,
+    arguments: &[String],
+) -> Result<Process, NoMemory>
+    requires image { IsImage bytes.now layout.version image.now }
+    requires lawful { IsTrue (is_lawful layout) }
+    requires words { vec_len words ≡ text_words layout }
+    requires few { length arguments.now ≤ 64 }
+    requires short { sum_by (λ word. length word + 1) (map string_bytes arguments.now) ≤ 65_536 }
+    ensures { IfOk result (λ process. IsLoaded (executable_in layout words.items bytes.now image.now) (map string_bytes arguments.now) view (core_of process.hart) (space_of process.mem) process.files) }
+{
+    let mut mem = memory_of(alloc, bytes, image, layout, words)?;
+    let stack = write_start(alloc, &mut mem, layout.version, arguments)?;
+    let mut hart = Hart::new(image.entry, view);
+    hart.set_reg(Reg::from_low_bits(2), stack);
+    let files = Files::new(image.break_start, layout.version.image_limit());
+    Ok(Process { hart, mem, files })
+}
+
+/// Loads an accepted image with its arguments, of which the first is by custom its name, for a hart
+/// in the Plain view. There are 64 at most, of 65,536 bytes at most with a zero byte behind each.
 pub fn load(
     alloc: Global,
     bytes: &[u8],
@@ -99,10 +132,7 @@ pub fn load(
     requires short { sum_by (λ word. length word + 1) (map string_bytes arguments.now) ≤ 65_536 }
     ensures { IfOk result (λ process. IsStart (program_of version bytes.now image.now (map string_bytes arguments.now)) (core_of process.hart) (space_of process.mem) process.files) }
 {
-    let mut mem = memory_of(alloc, bytes, image, version)?;
-    let stack = write_start(alloc, &mut mem, version, arguments)?;
-    let mut hart = Hart::new(image.entry, View::Plain);
-    hart.set_reg(Reg::from_low_bits(2), stack);
-    let files = Files::new(image.break_start, version.image_limit());
-    Ok(Process { hart, mem, files })
+    let words = text(alloc, bytes, image)?;
+    let layout = plain_layout(image, version);
+    load_in(alloc, bytes, image, layout, words, View::Plain, arguments)
 }

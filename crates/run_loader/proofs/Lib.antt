@@ -1,0 +1,3 @@
+pub mod FirstStates
+pub mod Undamaged
+pub mod Texts
