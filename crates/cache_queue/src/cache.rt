@@ -1,7 +1,7 @@
 //! The cache: needs, hints and looks.
 
-ghost use Rattle.std.specs.Prelude.{◌≡◌, ◌≤◌, ◌<◌, ◌↔◌, true, false, length, IfOk, Some, None};
-ghost use Rattle.program_model.specs.Cache.{holds, is_demanded, is_idle_hint, needed, hinted};
+ghost use Rattle.std.specs.Prelude.{◌≡◌, ◌≤◌, ◌<◌, ◌↔◌, true, false, length, IfOk, Some, None, is_none};
+ghost use Rattle.program_model.specs.Cache.{holds, in_flight, is_demanded, is_idle_hint, needed, hinted};
 ghost use Rattle.cache_queue.specs.State.{lists, bytes_of, no_blocks, SameBytes};
 
 use crate::blocks::Blocks;
@@ -98,6 +98,16 @@ impl Cache {
             return;
         }
         let _ = self.queue.try_push_back(spot);
+    }
+
+    /// Whether no block is in flight: none is demanded, and none is queued.
+    pub fn is_resting(&self) -> bool
+        ensures { result ≡ is_none (in_flight (lists self.now)) }
+    {
+        match &self.demanded {
+            Some(_) => false,
+            None => self.queue.is_empty(),
+        }
     }
 
     // Whether a hint of the block has no use.

@@ -1,12 +1,22 @@
 //! How a move begins.
 
-ghost use Rattle.std.specs.Prelude.{◌≡◌, ◌+◌, ◌<◌, ◌^◌, []};
+ghost use Rattle.std.specs.Prelude.{◌≡◌, ◌+◌, ◌<◌, ◌≤◌, ◌^◌, ◌||◌, None, [], not, length};
 ghost use Rattle.run_model.specs.Run.{World, Run};
-ghost use Rattle.run_model.specs.Moves.{begun, silent};
+ghost use Rattle.run_model.specs.Moves.{Moves, begun, silent, is_idle, run_from};
 ghost use Rattle.runner_parts.specs.Counts.{AreBelow};
+ghost use Rattle.runner_parts.specs.Idle.{AreIdle};
 ghost use Rattle.runner.specs.Shows.{Shows};
 
 use crate::runner::Runner;
+use runner_parts::runs;
+use spec_base::Move;
+
+// Whether a shadow stays where it is that moves only while the own hart waits.
+fn stays(stalled: bool, running: bool) -> bool
+    ensures { result ≡ (not stalled || not running) }
+{
+    !stalled || !running
+}
 
 impl Runner {
     // Nothing is told any more.
@@ -41,5 +51,29 @@ impl Runner {
     {
         self.fall_silent();
         self.counts.begin();
+    }
+
+    /// Whether a move is idle in a run that goes on.
+    pub fn rests(&self, step: Move) -> bool
+        ensures { (w : World) (r : Run) → Shows self.now w r → result ≡ is_idle step r }
+    {
+        match step {
+            Move::O => self.stalled,
+            Move::S => !runs(&self.state),
+            Move::T => stays(self.stalled, runs(&self.state)),
+            Move::D => self.cache.is_resting(),
+        }
+    }
+
+    /// So many idle moves of a run that goes on, at once.
+    pub fn rest(&mut self, moves: u64)
+        requires { self.old.counts.moves + moves ≤ 2 ^ 63 }
+        ensures shows { (w : World) (r : Run) (ms : Moves) → Shows self.old w r → r.end ≡ None → AreIdle r ms → length ms ≡ moves → Shows self.new w (run_from w r ms) }
+        ensures moves { self.new.counts.moves ≡ self.old.counts.moves + moves }
+    {
+        if moves != 0 {
+            self.fall_silent();
+            self.counts.pass(moves);
+        }
     }
 }
