@@ -21,6 +21,7 @@ use Rattle.runner.specs.declared.runner.Runner.{Runner}
 use Rattle.run_promises.specs.Schedules.{GoesOn, AreMade, StandsAs, MovesTo}
 use Rattle.program_driver.specs.Advances.{Advances, Goes, Leads, HasEnding, ending_of, is_starved}
 use Rattle.program_driver.specs.Runs.{Drives}
+use Rattle.program_driver.specs.Progress.{HasMade, Progress, ProgressTo}
 use Rattle.program_driver.proofs.Rounding.{front, turns-length}
 
 -- ---- what the store said
@@ -71,13 +72,6 @@ made-all pattern turns ms p e =
 
 -- ---- moves of a world
 
--- these moves were made in a world, and the run goes on
-pub record HasMade (w : World) (ms : Moves) (now : Runner) (before here : Outside) : Type 0 where
-  pub made : GoesOn w (opened_run w) ms
-  pub goes : (run w ms).end ≡ None
-  pub shows : Shows now w (run w ms)
-  pub heard : AreHeard w ms before here
-
 -- these moves were made in a world, and the run goes on or has so ended
 pub record MadeAll (w : World) (ms : Moves) (ending : Option Ending) (new : Runner) (before after : Outside) : Type 0 where
   pub made : GoesOn w (opened_run w) ms
@@ -119,18 +113,9 @@ both b t f = absurd (let e : true ≡ false = sym t ∙ f in cc)
 
 -- ---- the loop
 
--- the moves still to come, and those that were made, over any files of which what the store said is true
-pub record DriveLog (pattern : Pattern) (turns : ℕ) (left : List Move) (old now : Runner) (before here : Outside) : Type 0 where
-  pub ms : Moves
-  pub schedule : firsts ms ++ left ≡ pattern_moves pattern turns
-  pub said : List Said
-  pub told : (files : Files) → before.store.files ≡ Some files → AreTrueOf files said
-  pub files : here.store.files ≡ before.store.files
-  pub went : (w : World) → Accepted w → Shows old w (opened_run w) → AreTrueOf w.files said → HasMade w ms now before here
-
-pub first-DriveLog : (pattern : Pattern) (turns : ℕ) (old : Runner) (o : Outside) → DriveLog pattern turns (pattern_moves pattern turns) old old o o
+pub first-Progress : (pattern : Pattern) (turns : ℕ) (old : Runner) (o : Outside) → Progress pattern turns (pattern_moves pattern turns) old old o o
 unfolding run_from
-first-DriveLog pattern turns old o =
+first-Progress pattern turns old o =
     record {
       ms = [];
       schedule = refl;
@@ -142,7 +127,7 @@ first-DriveLog pattern turns old o =
 
 module _
     (pattern : Pattern) (turns : ℕ) (old now new : Runner) (before here after : Outside) (m : Move) (left : List Move)
-    (log : DriveLog pattern turns (m ∷ left) old now before here) where
+    (log : Progress pattern turns (m ∷ left) old now before here) where
   -- what a move more comes to
   pub record OneMore (ending : Option Ending) : Type 0 where
     pub x : Answer
@@ -167,9 +152,9 @@ module _
   schedule-one x = firsts-snoc log.ms m x left (pattern_moves pattern turns) log.schedule
 
   -- a move that leaves the run going
-  pub next-DriveLog : Advances m None now new here after → after.store.files ≡ here.store.files → DriveLog pattern turns left old new before after
-  next-DriveLog (inl starves) kept = both (is_starved None) starves.starved refl
-  next-DriveLog (inr goes) kept =
+  pub next-Progress : Advances m None now new here after → after.store.files ≡ here.store.files → Progress pattern turns left old new before after
+  next-Progress (inl starves) kept = both (is_starved None) starves.starved refl
+  next-Progress (inr goes) kept =
       let one = goes-OneMore None goes in
       record {
         ms = log.ms ++ (m, one.x) ∷ [];
@@ -217,9 +202,14 @@ module _
             ));
       }
 
+-- the moves so far, which come next
+pub moves-Progress : (pattern : Pattern) (turns : ℕ) (old now : Runner) (before here : Outside) (moves left : List Move) → moves ≡ left
+    → Progress pattern turns moves old now before here → Progress pattern turns left old now before here
+moves-Progress pattern turns old now before here moves left is log = subst (λ l. Progress pattern turns l old now before here) is log
+
 -- all moves are made
 pub over-Drives : (pattern : Pattern) (turns : ℕ) (old now : Runner) (before here : Outside) (count : ℕ) → IsPattern pattern
-    → DriveLog pattern turns [] old now before here → ((w : World) (r : Run) → Shows now w r → count ≡ r.own_done)
+    → Progress pattern turns [] old now before here → ((w : World) (r : Run) → Shows now w r → count ≡ r.own_done)
     → Drives (MovesTo pattern turns (TurnsOver count)) old now before here
 over-Drives pattern turns old now before here count p log counted =
     record {

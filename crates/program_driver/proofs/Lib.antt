@@ -5,3 +5,5 @@ mod Traced
 mod Turning
 mod Bottomless
 mod Reported
+mod Idling
+mod Stretching

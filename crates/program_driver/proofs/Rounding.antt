@@ -55,52 +55,48 @@ turns-length ((m, suc c) ∷ items) n p = rounds-length m (replicate c m ++ one_
 pub all-length : (pattern : Pattern) (n : ℕ) (moves : List Move) → IsPattern pattern → moves ≡ pattern_moves pattern n → length moves ≡ n
 all-length pattern n moves p e = ap length e ∙ turns-length pattern n p
 
--- ---- the next move
+-- ---- the next stretch
 
--- more of the current item
-pub next-more : (pattern items : Pattern) (m : Move) (k n : ℕ) → k ≢ 0 → n ≢ 0 → moves_from pattern m k items n ≡ m ∷ moves_from pattern m (k - 1) items (n - 1)
-next-more pattern items m zero n some turns = absurd (some refl)
-next-more pattern items m (suc k) zero some turns = absurd (turns refl)
-next-more pattern items m (suc k) (suc n) some turns =
-    let one : suc k - 1 ≡ k = omega arith in
-    let two : suc n - 1 ≡ n = omega arith in
-    rw one (rw two refl)
+-- a stretch that is made whole
+rounds-whole : (round moves : List Move) (m : Move) (c n : ℕ) → c ≤ n → rounds round (replicate c m ++ moves) n ≡ replicate c m ++ rounds round moves (n - c)
+rounds-whole round moves m zero n few = let e : n ≡ n - 0 = omega arith in ap (rounds round moves) e
+rounds-whole round moves m (suc c) zero few = absurd (let h : suc c ≤ 0 = few in omega (arith, h))
+rounds-whole round moves m (suc c) (suc n) few =
+    let e : n - c ≡ suc n - suc c = omega arith in
+    ap (λ l. m ∷ l) (rounds-whole round moves m c n (omega (arith, few)) ∙ ap (λ k. replicate c m ++ rounds round moves k) e)
 
--- the first of the next item of the round
-next-item : (pattern items : Pattern) (old m : Move) (c n : ℕ) → 1 ≤ c → n ≢ 0 → moves_from pattern old 0 ((m, c) ∷ items) n ≡ m ∷ moves_from pattern m (c - 1) items (n - 1)
-next-item pattern items old m zero n some turns = absurd (none some)
-  where
-    none : 1 ≤ 0 → ⊥
-    none h = omega (arith, h)
-next-item pattern items old m (suc c) n some turns = next-more pattern items m (suc c) n (λ e. (let f : suc c ≡ 0 = e in omega (arith, f))) turns
+-- one that is cut short
+rounds-cut : (round moves : List Move) (m : Move) (c n : ℕ) → n ≤ c → rounds round (replicate c m ++ moves) n ≡ replicate n m ++ []
+rounds-cut round moves m c zero few = refl
+rounds-cut round moves m zero (suc n) few = absurd (let h : suc n ≤ 0 = few in omega (arith, h))
+rounds-cut round moves m (suc c) (suc n) few = ap (λ l. m ∷ l) (rounds-cut round moves m c n (omega (arith, few)))
 
--- the first of the next round
-next-round : (pattern items : Pattern) (old m : Move) (c n : ℕ) → pattern ≡ (m, c) ∷ items → 1 ≤ c → n ≢ 0 → moves_from pattern old 0 [] n ≡ m ∷ moves_from pattern m (c - 1) items (n - 1)
-next-round pattern items old m zero n is some turns = absurd (none some)
-  where
-    none : 1 ≤ 0 → ⊥
-    none h = omega (arith, h)
-next-round pattern items old m (suc c) zero is some turns = absurd (turns refl)
-next-round pattern items old m (suc c) (suc n) is some turns =
-    let one : suc c - 1 ≡ c = omega arith in
-    let two : suc n - 1 ≡ n = omega arith in
-    rw one (rw two (rw is refl))
+-- a new round
+rounds-again : (m : Move) (round : List Move) (n : ℕ) → rounds (m ∷ round) [] n ≡ rounds (m ∷ round) (m ∷ round) n
+rounds-again m round zero = refl
+rounds-again m round (suc n) = refl
 
--- one of these
-pub next-first : (pattern items rest : Pattern) (old m : Move) (k c n : ℕ) → (m, c) ∷ rest ≡ items_or pattern items → k ≡ 0 → 1 ≤ c → n ≢ 0
-    → moves_from pattern old k items n ≡ m ∷ moves_from pattern m (c - 1) rest (n - 1)
-next-first pattern [] rest old m k c n is none some turns =
-    subst (λ k. moves_from pattern old k [] n ≡ m ∷ moves_from pattern m (c - 1) rest (n - 1)) (sym none) (next-round pattern rest old m c n (sym is) some turns)
-next-first pattern (item ∷ items) rest old m k c n is none some turns =
-    subst (λ k. moves_from pattern old k (item ∷ items) n ≡ m ∷ moves_from pattern m (c - 1) rest (n - 1)) (sym none)
-    (subst (λ l. moves_from pattern old 0 l n ≡ m ∷ moves_from pattern m (c - 1) rest (n - 1)) is (next-item pattern rest old m c n some turns))
+round-again : (pattern : Pattern) (m : Move) (c n : ℕ) (rest : Pattern) → pattern ≡ (m, c) ∷ rest → 1 ≤ c → rounds (one_round pattern) [] n ≡ rounds (one_round pattern) (replicate c m ++ one_round rest) n
+round-again pattern m zero n rest is some = absurd (let h : 1 ≤ 0 = some in omega (arith, h))
+round-again pattern m (suc c) n rest is some = rw is (rounds-again m (replicate c m ++ one_round rest) n)
 
--- each has moves
+-- the next item comes first
+next-first : (pattern items rest : Pattern) (m : Move) (c n : ℕ) → (m, c) ∷ rest ≡ items_or pattern items → 1 ≤ c
+    → moves_from pattern items n ≡ rounds (one_round pattern) (replicate c m ++ one_round rest) n
+next-first pattern [] rest m c n is some = round-again pattern m c n rest (sym is) some
+next-first pattern (item ∷ items) rest m c n is some = ap (λ l. rounds (one_round pattern) (one_round l) n) (sym is)
+
+pub next-whole : (pattern items rest : Pattern) (m : Move) (c n : ℕ) → (m, c) ∷ rest ≡ items_or pattern items → 1 ≤ c → c ≤ n
+    → moves_from pattern items n ≡ replicate c m ++ moves_from pattern rest (n - c)
+next-whole pattern items rest m c n is some few = next-first pattern items rest m c n is some ∙ rounds-whole (one_round pattern) (one_round rest) m c n few
+
+pub next-cut : (pattern items rest : Pattern) (m : Move) (c n : ℕ) → (m, c) ∷ rest ≡ items_or pattern items → 1 ≤ c → n ≤ c
+    → moves_from pattern items n ≡ replicate n m ++ moves_from pattern items 0
+next-cut pattern items rest m c n is some few = next-first pattern items rest m c n is some ∙ rounds-cut (one_round pattern) (one_round rest) m c n few
+
+-- its move is made, and so are those behind it
 pub next-HasMoves : (pattern items rest : Pattern) (m : Move) (c : ℕ) → (m, c) ∷ rest ≡ items_or pattern items → HasMoves pattern → HasMoves items → (1 ≤ c) × HasMoves rest
 next-HasMoves pattern [] rest m c is one two =
     let h : HasMoves ((m, c) ∷ rest) = subst HasMoves (sym is) one in (All-head (λ item. 1 ≤ item.1) (m, c) rest h, All-tail (λ item. 1 ≤ item.1) (m, c) rest h)
 next-HasMoves pattern (item ∷ items) rest m c is one two =
     let h : HasMoves ((m, c) ∷ rest) = subst HasMoves (sym is) two in (All-head (λ item. 1 ≤ item.1) (m, c) rest h, All-tail (λ item. 1 ≤ item.1) (m, c) rest h)
-
-pub shorter : (m : Move) (now next : List Move) → now ≡ m ∷ next → length next < length now
-shorter m now next e = omega (arith, ap length e)

@@ -26,14 +26,15 @@ use Rattle.program_driver.specs.Advances.{Advances, HasEnding, ending_of, is_sta
 use Rattle.program_driver.specs.Lines.{ArePut, LinesTo, note_lines, fault_ending, ending_with}
 use Rattle.program_driver.specs.declared.lines.LineFault.{LineFault}
 use Rattle.program_driver.specs.Runs.{Drives}
-use Rattle.program_driver.specs.Traces.{told_line, trace_lines, last_lines, turns_lines, all_lines, TellsTo, all, in_move, at_turns, over_bottomless, TracesTo, move_ending, TellsNothing, TellsMove, TracesMove}
+use Rattle.program_driver.specs.Traces.{told_line, trace_lines, last_lines, turns_lines, all_lines, TellsTo, all, in_move, at_turns, over_bottomless, with_err, TracesTo, move_ending, TellsNothing, TellsMove, TracesMove}
+use Rattle.program_driver.specs.Progress.{HasMade, Progress, TraceProgress}
 use Rattle.program_driver.proofs.Bottomless.{no-sink-fault}
-use Rattle.program_driver.proofs.Driven.{made-AreMade, made-all, DriveLog, OneMore, goes-OneMore, schedule-one, ended-stands, no-memory, both}
+use Rattle.program_driver.proofs.Driven.{made-AreMade, made-all, OneMore, goes-OneMore, schedule-one, ended-stands, no-memory, both}
 use Rattle.program_driver.proofs.Lining.{append-ArePut}
 
 -- ---- lines of one move more
 
-trace-snoc : (w : World) (m : Move × Answer) (r : Run) (ms : Moves)
+pub trace-snoc : (w : World) (m : Move × Answer) (r : Run) (ms : Moves)
     → trace_from w r (ms ++ m ∷ []) ≡ trace_from w r ms ++ told_by (run_from w r (ms ++ m ∷ [])) (run_from w r (ms ++ m ∷ [])).notes
 unfolding run_from trace_from
 trace-snoc w m r [] = append-nil (told_by (step w r m) (step w r m).notes)
@@ -88,10 +89,6 @@ stands-so turns ms r (Some ending) h = ended-stands turns ms r h.0 ending h.1 h.
 
 -- ---- the whole
 
--- the outcome of a trace, with what it leaves
-abbrev pub with_err : SinkState → StoreState → SinkState → Outside
-with_err err store out = record { store = store; out = out; err = err }
-
 as-TracesTo : (w : World) → Accepted w → (pattern : Pattern) (turns : ℕ) (reached ending : Ending) (ms : Moves) (store after : StoreState) (out out_after err : SinkState)
     → MovesTo pattern turns reached w ms (over_bottomless store) (over_bottomless after) → TellsTo w ms reached ending out out_after
     → TracesTo pattern turns ending w ms (with_err err store out) (with_err err after out_after)
@@ -100,15 +97,10 @@ as-TracesTo w acc pattern turns reached ending ms store after out out_after err 
 
 -- ---- the loop
 
--- the moves still to come, those that were made, and their lines
-pub record TraceLog (pattern : Pattern) (turns : ℕ) (left : List Move) (old now : Runner) (store : StoreState) (out : SinkState) (store_now : StoreState) (out_now : SinkState) : Type 0 where
-  pub drives : DriveLog pattern turns left old now (over_bottomless store) (over_bottomless store_now)
-  pub puts : (w : World) → Accepted w → Shows old w (opened_run w) → AreTrueOf w.files drives.said → ArePut out (trace_lines w drives.ms) out_now
-
-pub first-TraceLog : (pattern : Pattern) (turns : ℕ) (old : Runner) (store : StoreState) (out : SinkState)
-    → TraceLog pattern turns (pattern_moves pattern turns) old old store out store out
+pub first-TraceProgress : (pattern : Pattern) (turns : ℕ) (old : Runner) (store : StoreState) (out : SinkState)
+    → TraceProgress pattern turns (pattern_moves pattern turns) old old store out store out
 unfolding run_from trace_from
-first-TraceLog pattern turns old store out =
+first-TraceProgress pattern turns old store out =
     record {
       drives = record {
         ms = [];
@@ -123,7 +115,7 @@ first-TraceLog pattern turns old store out =
 
 module _
     (pattern : Pattern) (turns : ℕ) (old now new : Runner) (store here after : StoreState) (out out_here out_after : SinkState) (m : Move) (left : List Move)
-    (log : TraceLog pattern turns (m ∷ left) old now store out here out_here) where
+    (log : TraceProgress pattern turns (m ∷ left) old now store out here out_here) where
   abbrev One : Option Ending → Type 0
   One reached = OneMore pattern turns old now new (over_bottomless store) (over_bottomless here) (over_bottomless after) m left log.drives reached
 
@@ -138,7 +130,7 @@ module _
 
   -- a move that leaves the run going, and whose lines were put
   goes-on : (reached : Option Ending) → reached ≡ None → Advances m reached now new (over_bottomless here) (over_bottomless after) → after.files ≡ here.files
-      → ((w : World) (r : Run) → Shows new w r → ArePut out_here (last_lines r) out_after) → TraceLog pattern turns left old new store out after out_after
+      → ((w : World) (r : Run) → Shows new w r → ArePut out_here (last_lines r) out_after) → TraceProgress pattern turns left old new store out after out_after
   goes-on reached none (inl starves) kept lines = both (is_starved reached) starves.starved (ap is_starved none)
   goes-on reached none (inr goes) kept lines =
       let one = goes-OneMore pattern turns old now new (over_bottomless store) (over_bottomless here) (over_bottomless after) m left log.drives reached goes in
@@ -158,15 +150,15 @@ module _
             puts-one w one.x (log.puts w acc shows (one.sooner w.files holds)) (lines w (run w (all_moves one.x)) all.shows));
       }
 
-  pub next-TraceLog : TracesMove m None now new here out_here after out_after → after.files ≡ here.files → TraceLog pattern turns left old new store out after out_after
-  next-TraceLog t kept = by_tells t.tells
+  pub next-TraceProgress : TracesMove m None now new here out_here after out_after → after.files ≡ here.files → TraceProgress pattern turns left old new store out after out_after
+  next-TraceProgress t kept = by_tells t.tells
     where
       by_answer : (answer : Result (Unit {0}) LineFault) → ((w : World) (r : Run) → Shows new w r → LinesTo (last_lines r) answer out_here out_after)
-          → None ≡ move_ending t.reached answer → TraceLog pattern turns left old new store out after out_after
+          → None ≡ move_ending t.reached answer → TraceProgress pattern turns left old new store out after out_after
       by_answer (Ok done) lines e = goes-on t.reached (sym e) t.advances kept lines
       by_answer (Err fault) lines e = absurd (let f : None ≡ Some (fault_ending fault) = e in cc)
 
-      by_tells : TellsNothing t.reached None out_here out_after ⊎ TellsMove t.reached None new out_here out_after → TraceLog pattern turns left old new store out after out_after
+      by_tells : TellsNothing t.reached None out_here out_after ⊎ TellsMove t.reached None new out_here out_after → TraceProgress pattern turns left old new store out after out_after
       by_tells (inl nothing) = both (is_starved t.reached) nothing.starved (ap is_starved (sym nothing.ends))
       by_tells (inr tells) = by_answer tells.answer tells.lines tells.ends
 
@@ -189,13 +181,13 @@ module _
           went = λ w acc shows holds. (
               let has = log.drives.went w acc shows holds in (
                 as-TracesTo w acc pattern turns NoMemory ending ms store after out out_after err
-                (record {
-                  made = made-AreMade w pattern turns ms (m ∷ left) log.drives.schedule has.made;
-                  stands = has.goes;
-                  heard = subst (AreHeard w ms (over_bottomless store)) (sym starves.untouched) has.heard;
-                })
-                (all is (subst (λ s. ArePut out (all_lines w ms NoMemory) s) (sym untouched)
-                      (subst (λ lines. ArePut out lines out_here) (sym (append-nil (trace_lines w ms))) (log.puts w acc shows holds)))),
+                    (record {
+                      made = made-AreMade w pattern turns ms (m ∷ left) log.drives.schedule has.made;
+                      stands = has.goes;
+                      heard = subst (AreHeard w ms (over_bottomless store)) (sym starves.untouched) has.heard;
+                    })
+                    (all is (subst (λ s. ArePut out (all_lines w ms NoMemory) s) (sym untouched)
+                    (subst (λ lines. ArePut out lines out_here) (sym (append-nil (trace_lines w ms))) (log.puts w acc shows holds)))),
                 starves.shows w (run w ms) has.shows,
               ));
         }
@@ -246,12 +238,12 @@ module _
           went = λ w acc shows holds. (
               let last = one.went w acc shows holds in (
                 as-TracesTo w acc pattern turns (stand_of reached) ending ms store after out out_after err
-                (record {
-                  made = made-AreMade w pattern turns ms left (schedule-one pattern turns old now new (over_bottomless store) (over_bottomless here) (over_bottomless after) m left log.drives one.x) last.made;
-                  stands = stands-so turns ms (run w ms) reached last.ends;
-                  heard = last.heard;
-                })
-                (told-by reached one.x w answer last.ends e (log.puts w acc shows (one.sooner w.files holds)) (lines w (run w ms) last.shows)),
+                    (record {
+                      made = made-AreMade w pattern turns ms left (schedule-one pattern turns old now new (over_bottomless store) (over_bottomless here) (over_bottomless after) m left log.drives one.x) last.made;
+                      stands = stands-so turns ms (run w ms) reached last.ends;
+                      heard = last.heard;
+                    })
+                    (told-by reached one.x w answer last.ends e (log.puts w acc shows (one.sooner w.files holds)) (lines w (run w ms) last.shows)),
                 last.shows,
               ));
         }
@@ -263,6 +255,11 @@ module _
         by_tells (inl nothing) = starved-Drives t.reached nothing.starved nothing.ends nothing.untouched t.advances
         by_tells (inr tells) = made-Drives t.reached tells.answer tells.made tells.lines tells.ends t.advances
 
+-- the moves so far, which come next
+pub moves-TraceProgress : (pattern : Pattern) (turns : ℕ) (old now : Runner) (store : StoreState) (out : SinkState) (here : StoreState) (out_here : SinkState) (moves left : List Move) → moves ≡ left
+    → TraceProgress pattern turns moves old now store out here out_here → TraceProgress pattern turns left old now store out here out_here
+moves-TraceProgress pattern turns old now store out here out_here moves left is log = subst (λ l. TraceProgress pattern turns l old now store out here out_here) is log
+
 -- ---- all moves are made
 
 turns-told : (w : World) (ms : Moves) (own : ℕ) (out out_here out_after : SinkState) (answer : Result (Unit {0}) LineFault)
@@ -272,7 +269,7 @@ turns-told w ms own out out_here out_after (Ok done) puts line = all refl (appen
 turns-told w ms own out out_here out_after (Err fault) puts line = at_turns fault out_here refl puts line
 
 pub over-Drives : (pattern : Pattern) (turns : ℕ) (old now : Runner) (store here : StoreState) (out out_here out_after err : SinkState) (own shadow : ℕ) (answer : Result (Unit {0}) LineFault)
-    → IsPattern pattern → TraceLog pattern turns [] old now store out here out_here
+    → IsPattern pattern → TraceProgress pattern turns [] old now store out here out_here
     → ((w : World) (r : Run) → Shows now w r → own ≡ r.own_done) → ((w : World) (r : Run) → Shows now w r → shadow ≡ r.since.shadow)
     → LinesTo (turns_line_of own shadow ∷ []) answer out_here out_after
     → Drives (TracesTo pattern turns (ending_with (TurnsOver own) answer)) old now (with_err err store out) (with_err err here out_after)
@@ -287,12 +284,12 @@ over-Drives pattern turns old now store here out out_here out_after err own shad
           let r : Run = run w ms in
           let line : turns_line_of own shadow ≡ turns_line_of r.own_done r.since.shadow = ap₂ turns_line_of (owns w r has.shows) (shadows w r has.shows) in (
             as-TracesTo w acc pattern turns (TurnsOver own) (ending_with (TurnsOver own) answer) ms store here out out_after err
-            (record {
-              made = made-AreMade w pattern turns ms [] log.drives.schedule has.made;
-              stands = (has.goes, made-all pattern turns ms p log.drives.schedule, owns w r has.shows);
-              heard = has.heard;
-            })
-            (turns-told w ms own out out_here out_after answer (log.puts w acc shows holds) (subst (λ l. LinesTo (l ∷ []) answer out_here out_after) line lines)),
+                (record {
+                  made = made-AreMade w pattern turns ms [] log.drives.schedule has.made;
+                  stands = (has.goes, made-all pattern turns ms p log.drives.schedule, owns w r has.shows);
+                  heard = has.heard;
+                })
+                (turns-told w ms own out out_here out_after answer (log.puts w acc shows holds) (subst (λ l. LinesTo (l ∷ []) answer out_here out_after) line lines)),
             has.shows,
           ));
     }

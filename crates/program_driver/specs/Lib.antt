@@ -3,3 +3,4 @@ pub mod Advances
 pub mod Lines
 pub mod Runs
 pub mod Traces
+pub mod Progress

@@ -8,9 +8,9 @@ abbrev pub items_or : Pattern → Pattern → Pattern
 items_or pattern [] = pattern
 items_or pattern (item ∷ items) = item ∷ items
 
--- so many of a move, then these items of a pattern, then its rounds: the first n of these moves
-abbrev pub moves_from : Pattern → Move → ℕ → Pattern → ℕ → List Move
-moves_from pattern current count items n = rounds (one_round pattern) (replicate count current ++ one_round items) n
+-- the moves of these items, then rounds of a pattern: the first n of these moves
+abbrev pub moves_from : Pattern → Pattern → ℕ → List Move
+moves_from pattern items n = rounds (one_round pattern) (one_round items) n
 
 -- each item is made at least once
 abbrev pub HasMoves : Pattern → Type 0

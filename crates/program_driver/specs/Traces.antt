@@ -68,6 +68,10 @@ bottomless = untold_sink Endless 0
 abbrev pub over_bottomless : StoreState → Outside
 over_bottomless store = record { store = store; out = bottomless; err = bottomless }
 
+-- a store and standard output, beside any standard error
+abbrev pub with_err : SinkState → StoreState → SinkState → Outside
+with_err err store out = record { store = store; out = out; err = err }
+
 -- at most so many moves of a pattern were made over a store, with each put of the program taken whole, and their lines went to standard output. No put of the program fails
 pub record TracesTo (pattern : Pattern) (turns : ℕ) (ending : Ending) (w : World) (ms : Moves) (old new : Outside) : Type 0 where
   pub reached : Ending

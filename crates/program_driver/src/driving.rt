@@ -3,6 +3,7 @@
 ghost use Rattle.std.specs.Prelude.{◌≡◌, ◌≤◌, ◌+◌, ◌^◌};
 ghost use Rattle.command_words.specs.Limits.{IsPattern};
 ghost use Rattle.run_promises.specs.Schedules.{MovesTo};
+ghost use Rattle.program_driver.specs.Progress.{MakesStretch};
 ghost use Rattle.program_driver.specs.Runs.{Drives};
 
 use crate::advancing::advance;
@@ -11,6 +12,34 @@ use plain_runner::Ending;
 use runner::Runner;
 use spec_base::{List, Move};
 use world_io::{Sink, Store};
+
+/// Makes a move so many times, at once where it does nothing but count. Answers how that ends the run,
+/// if it does.
+fn drive_stretch<D: Store, O: Sink, E: Sink>(
+    runner: &mut Runner,
+    step: Move,
+    count: u64,
+    store: &mut D,
+    out: &mut O,
+    err: &mut E,
+) -> Option<Ending>
+    requires few { runner.old.counts.moves + count ≤ 2 ^ 63 }
+    ensures moves { runner.new.counts.moves ≤ runner.old.counts.moves + count }
+    ensures goes { MakesStretch step count result runner.old runner.new
+        (record { store = D.state store.old; out = O.state out.old; err = E.state err.old })
+        (record { store = D.state store.new; out = O.state out.new; err = E.state err.new }) }
+{
+    for made in 0..count {
+        if runner.rests(step) {
+            runner.rest(count - made);
+            return None;
+        }
+        if let Some(ending) = advance(runner, step, store, out, err) {
+            return Some(ending);
+        }
+    }
+    None
+}
 
 /// Makes the moves of a repeated pattern, at most `turns`, over a store and two sinks, up to the first
 /// that ends the run. Before each move pages are reserved, where fewer than 17 are spare; `NoMemory` comes
@@ -29,8 +58,9 @@ pub fn drive<D: Store, O: Sink, E: Sink>(
         (record { store = D.state store.old; out = O.state out.old; err = E.state err.old })
         (record { store = D.state store.new; out = O.state out.new; err = E.state err.new }) }
 {
-    for step in Schedule::new(pattern, turns) {
-        if let Some(ending) = advance(runner, step, store, out, err) {
+    let mut schedule = Schedule::new(pattern, turns);
+    while let Some((step, count)) = schedule.next_stretch() {
+        if let Some(ending) = drive_stretch(runner, step, count, store, out, err) {
             return ending;
         }
     }

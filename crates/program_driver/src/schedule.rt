@@ -1,7 +1,6 @@
 //! The moves of a repeated pattern.
 
-ghost use Rattle.std.specs.Prelude.{◌≡◌, ◌≤◌, ◌∷◌, length};
-ghost use Rattle.std.specs.Iterator.{YieldsFirst, item_count};
+ghost use Rattle.std.specs.Prelude.{◌≡◌, ◌≤◌, [], ◌∷◌, ◌++◌, length, replicate, MatchOption, IfSome};
 ghost use Rattle.command_words.specs.Limits.{IsPattern};
 ghost use Rattle.run_model.specs.Patterns.{pattern_moves};
 ghost use Rattle.program_driver.specs.Rounds.{items_or};
@@ -16,8 +15,6 @@ use std::marker::Model;
 pub struct Schedule<'a> {
     pattern: &'a [(Move, u32)],
     rest: &'a [(Move, u32)],
-    current: Move,
-    count: u32,
     turns: u64,
 }
 
@@ -28,7 +25,7 @@ impl<'a> Model for Schedule<'a> {
 
     ghost Value = { List Move };
 
-    ghost view = { λ s. moves_from s.pattern.now s.current s.count s.rest.now s.turns };
+    ghost view = { λ s. moves_from s.pattern.now s.rest.now s.turns };
 
     ghost invariant = { λ s. IsRepeated s.pattern.now s.rest.now };
 }
@@ -42,34 +39,28 @@ impl<'a> Schedule<'a> {
         Schedule {
             pattern: &pattern.items,
             rest: &[],
-            current: Move::O,
-            count: 0,
             turns,
         }
     }
-}
 
-impl<'a> Iterator for Schedule<'a> {
-    type Item = Move;
-
-    ghost next_gives = { YieldsFirst (λ moves. moves) };
-
-    ghost remaining = { item_count (λ moves. moves) };
-
-    fn next(&mut self) -> Option<Move> {
+    /// The move that comes next, and how often it is made before the next item of the pattern.
+    pub fn next_stretch(&mut self) -> Option<(Move, u64)>
+        ensures moves { MatchOption result (self.old ≡ []) (λ stretch. self.old ≡ replicate stretch.1 stretch.0 ++ self.new) }
+        ensures some { IfSome result (λ stretch. 1 ≤ stretch.1) }
+    {
         if self.turns == 0 {
             return None;
         }
-        self.turns -= 1;
-        if self.count > 0 {
-            self.count -= 1;
-            return Some(self.current);
+        let (step, count, rest) = next_item(self.pattern, self.rest);
+        let count = u64::from(count);
+        if self.turns <= count {
+            let last = self.turns;
+            self.turns = 0;
+            return Some((step, last));
         }
-        let (current, count, rest) = next_item(self.pattern, self.rest);
-        self.current = current;
-        self.count = count - 1;
+        self.turns -= count;
         self.rest = rest;
-        Some(current)
+        Some((step, count))
     }
 }
 

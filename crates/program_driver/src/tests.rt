@@ -9,20 +9,22 @@ use std::alloc::Global;
 use std::test::Fail;
 use world_io::MemSink;
 
-// The letters of the first moves of a pattern.
-fn letters(alloc: Global, pattern: &List<(Move, u32)>, turns: u64) -> Result<Vec<u8>, Fail>
+// The first stretches of a pattern, up to five.
+fn stretches(
+    alloc: Global,
+    pattern: &List<(Move, u32)>,
+    turns: u64,
+) -> Result<Vec<(Move, u64)>, Fail>
     requires { IsPattern pattern.now }
 {
-    let mut letters = Vec::new(alloc);
-    for step in Schedule::new(pattern, turns) {
-        letters.push(match step {
-            Move::O => b'O',
-            Move::S => b'S',
-            Move::T => b'T',
-            Move::D => b'D',
-        })?;
+    let mut stretches = Vec::new(alloc);
+    let mut schedule = Schedule::new(pattern, turns);
+    for _ in 0..5 {
+        if let Some(stretch) = schedule.next_stretch() {
+            stretches.push(stretch)?;
+        }
     }
-    Ok(letters)
+    Ok(stretches)
 }
 
 #[test]
@@ -31,19 +33,17 @@ fn a_pattern_is_repeated(rt: HostRuntime) -> Result<(), Fail> {
     let pattern = List {
         items: vec![in alloc; (Move::O, 1), (Move::S, 2), (Move::D, 1)]?,
     };
-    assert_eq!(rt; letters(alloc, &pattern, 0)?.as_slice(), b"");
-    assert_eq!(rt; letters(alloc, &pattern, 2)?.as_slice(), b"OS");
-    assert_eq!(rt; letters(alloc, &pattern, 10)?.as_slice(), b"OSSDOSSDOS");
-    Ok(())
-}
-
-#[test]
-fn a_pattern_of_one_item_is_repeated(rt: HostRuntime) -> Result<(), Fail> {
-    let alloc = rt.alloc();
-    let pattern = List {
-        items: vec![in alloc; (Move::T, 2)]?,
-    };
-    assert_eq!(rt; letters(alloc, &pattern, 5)?.as_slice(), b"TTTTT");
+    assert_eq!(rt; stretches(alloc, &pattern, 0)?.len(), 0);
+    assert_eq!(rt;
+        stretches(alloc, &pattern, 6)?.as_slice(),
+        &[
+            (Move::O, 1),
+            (Move::S, 2),
+            (Move::D, 1),
+            (Move::O, 1),
+            (Move::S, 1)
+        ]
+    );
     Ok(())
 }
 

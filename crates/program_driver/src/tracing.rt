@@ -3,6 +3,7 @@
 ghost use Rattle.std.specs.Prelude.{◌≡◌, ◌≤◌, ◌<◌, ◌+◌, ◌^◌};
 ghost use Rattle.world_io.specs.Outside.{SinkState};
 ghost use Rattle.command_words.specs.Limits.{IsPattern};
+ghost use Rattle.program_driver.specs.Progress.{TracesStretch};
 ghost use Rattle.program_driver.specs.Runs.{Drives};
 ghost use Rattle.program_driver.specs.Traces.{TracesTo, TracesMove};
 
@@ -47,6 +48,32 @@ fn trace_move<D: Store, O: Sink>(
     }
 }
 
+/// Makes a move so many times, as `trace_move` does, and at once where it does nothing but count, which
+/// tells nothing. Answers how that ends the run, if it does.
+fn trace_stretch<D: Store, O: Sink>(
+    alloc: Global,
+    runner: &mut Runner,
+    step: Move,
+    count: u64,
+    store: &mut D,
+    out: &mut O,
+) -> Option<Ending>
+    requires few { runner.old.counts.moves + count ≤ 2 ^ 63 }
+    ensures moves { runner.new.counts.moves ≤ runner.old.counts.moves + count }
+    ensures goes { TracesStretch step count result runner.old runner.new (D.state store.old) (O.state out.old) (D.state store.new) (O.state out.new) }
+{
+    for made in 0..count {
+        if runner.rests(step) {
+            runner.rest(count - made);
+            return None;
+        }
+        if let Some(ending) = trace_move(alloc, runner, step, store, out) {
+            return Some(ending);
+        }
+    }
+    None
+}
+
 /// Makes the moves of a repeated pattern, at most `turns`, over a store, as `drive` does, with each put of
 /// the program taken whole. The lines of what the moves tell go to standard output, each put by itself
 /// until it is whole; where all moves were made and the run would go on, the line of the turns is the last.
@@ -64,8 +91,9 @@ pub fn trace<D: Store, O: Sink>(
         (record { store = D.state store.old; out = O.state out.old; err = err })
         (record { store = D.state store.new; out = O.state out.new; err = err }) }
 {
-    for step in Schedule::new(pattern, turns) {
-        if let Some(ending) = trace_move(alloc, runner, step, store, out) {
+    let mut schedule = Schedule::new(pattern, turns);
+    while let Some((step, count)) = schedule.next_stretch() {
+        if let Some(ending) = trace_stretch(alloc, runner, step, count, store, out) {
             return ending;
         }
     }

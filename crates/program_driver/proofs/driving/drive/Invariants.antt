@@ -1,13 +1,14 @@
 use Rattle.std.proofs.Common.{◌≤◌, ◌+◌, ◌^◌, length}
-use Rattle.program_driver.proofs.Driven.{DriveLog}
+use Rattle.program_driver.specs.Progress.{Progress}
 use Rattle.program_driver.proofs.driving.drive.Given as goal
 
 abbrev pub invariant-loop-step : goal.invariant-loop-step
 invariant-loop-step g l = record {
-  can : (goal.iterator-loop-step g).can_next l.step-iterator;
-  finite : (goal.iterator-loop-step g).is_finite l.step-iterator;
-  few : l.runner.counts.moves + length l.step-iterator ≤ 2 ^ 63;
-  log : DriveLog l.pattern l.turns l.step-iterator l.fn.runner l.runner
+  few : l.runner.counts.moves + length l.schedule ≤ 2 ^ 63;
+  log : Progress l.pattern l.turns l.schedule l.fn.runner l.runner
       (record { store = g.D.Store.state l.fn.store; out = g.O.Sink.state l.fn.out; err = g.E.Sink.state l.fn.err })
       (record { store = g.D.Store.state l.store; out = g.O.Sink.state l.out; err = g.E.Sink.state l.err });
 }
+
+abbrev pub decreases-loop-step : goal.decreases-loop-step
+decreases-loop-step g l = length l.schedule

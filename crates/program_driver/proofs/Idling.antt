@@ -1,0 +1,178 @@
+-- Moves that do nothing but count, in a run over the outside.
+use Rattle.std.proofs.Common.{◌≡◌, ℕ, zero, suc, ◌+◌, Bool, true, false, not, ◌&&◌, ◌||◌, List, [], ◌∷◌, ◌++◌, length, map, Option, Some, None, refl, ap, sym, ◌∙◌, subst}
+use Rattle.std.specs.Prelude.{is_none, replicate}
+use Rattle.std.proofs.lemmas.List.{append_assoc, append-nil, map-append}
+use Rattle.spec_base.specs.declared.note.Move.{Move}
+use Rattle.spec_base.specs.declared.note.Move.TheVariants.{O, S, T, D}
+use Rattle.spec_base.specs.declared.spot.BlockSpot.{BlockSpot}
+use Rattle.spec_base.specs.Layout.{stub_start}
+use Rattle.rv_model.specs.Effect.{fetched}
+use Rattle.program_model.specs.Cache.{in_flight}
+use Rattle.code_model.specs.Stub.{stub}
+use Rattle.run_model.specs.Run.{World, Run, RunEnd, Answer, Usual, opened_run}
+use Rattle.run_model.specs.ShadowMoves.{is_running, is_call_word, fetch_shadow, shadow_plan}
+use Rattle.run_model.specs.Moves.{Moves, step, run, run_from, is_idle, begun}
+use Rattle.run_model.specs.Patterns.{Pattern, pattern_moves}
+use Rattle.run_model.specs.Trace.{told_by, trace, trace_from}
+use Rattle.run_laws.specs.OwnLaws.{Accepted}
+use Rattle.world_io.specs.Outside.{SinkState, StoreState}
+use Rattle.world_io.specs.Logs.{StoreLog, AreOffered}
+use Rattle.world_io.proofs.Stores.{none-StoreLog}
+use Rattle.plain_runner.specs.Runs.{Outside}
+use Rattle.word_laws.specs.Shown.{is_performed}
+use Rattle.move_requests.specs.Asked.{Asked, Nothing, asks, asks_if, asks_unless, move_asks, performing_asks, fetching_asks, is_stub, MayAnswer}
+use Rattle.move_requests.specs.Offers.{store_call, offers_in}
+use Rattle.move_requests.specs.Hears.{Hears, AreHeard}
+use Rattle.move_requests.proofs.Snoc.{moves_add_up}
+use Rattle.move_requests.proofs.Heard.{next_is_heard}
+use Rattle.run_promises.specs.Schedules.{GoesOn}
+use Rattle.runner_parts.specs.Idle.{AreIdle}
+use Rattle.runner_parts.proofs.Idle.{step-idle}
+use Rattle.runner.specs.Shows.{Shows}
+use Rattle.runner.specs.declared.runner.Runner.{Runner}
+use Rattle.program_driver.specs.Progress.{HasMade, Progress, TraceProgress}
+use Rattle.program_driver.specs.Lines.{ArePut}
+use Rattle.program_driver.specs.Traces.{told_line, trace_lines, over_bottomless}
+use Rattle.program_driver.proofs.Driven.{firsts, goes-snoc}
+use Rattle.program_driver.proofs.Traced.{trace-snoc}
+
+-- ---- an idle move asks nothing
+
+waits-asks : (s b : Bool) (a : Asked) → s ≡ true → asks_if (not s && b) a ≡ Nothing
+waits-asks true b a e = refl
+waits-asks false b a e = absurd (let f : false ≡ true = e in cc)
+
+rests-asks : (q b : Bool) (a : Asked) → not q ≡ true → asks_if (q && b) a ≡ Nothing
+rests-asks false b a e = refl
+rests-asks true b a e = absurd (let f : false ≡ true = e in cc)
+
+either-asks : (s q b : Bool) (a : Asked) → (not s || not q) ≡ true → asks_if (s && (q && b)) a ≡ Nothing
+either-asks false q b a e = refl
+either-asks true q b a e = rests-asks q b a e
+
+fetch-asks : (o : Option BlockSpot) → is_none o ≡ true → fetching_asks o ≡ Nothing
+fetch-asks None e = refl
+fetch-asks (Some spot) e = absurd (let f : false ≡ true = e in cc)
+
+move-asks : (w : World) (r : Run) (m : Move) → is_idle m r ≡ true → move_asks w r m ≡ Nothing
+move-asks w r O e = waits-asks r.stalled _ _ e
+move-asks w r S e = rests-asks (is_running r.shadow.state) _ _ e
+move-asks w r T e = either-asks r.stalled (is_running r.shadow.state) _ _ e
+move-asks w r D e = fetch-asks (in_flight r.cache) e
+
+idle-asks : (w : World) (r : Run) (m : Move) → r.end ≡ None → is_idle m r ≡ true → asks w r m ≡ Nothing
+idle-asks w r m going e = subst (λ o. asks_unless o w r m ≡ Nothing) (sym going) (move-asks w r m e)
+
+idle-hears : (w : World) (r : Run) (m : Move) (o : Outside) → r.end ≡ None → is_idle m r ≡ true → Hears w r m Usual o o
+idle-hears w r m o going e =
+    let none = sym (idle-asks w r m going e) in
+    record {
+      may = subst (λ a. MayAnswer a Usual) none refl;
+      store = subst (λ a. StoreLog o.store (store_call a Usual) o.store) none (none-StoreLog o.store);
+      out = subst (λ a. AreOffered o.out (offers_in true a Usual) o.out) none refl;
+      err = subst (λ a. AreOffered o.err (offers_in false a Usual) o.err) none refl;
+    }
+
+-- an idle move leaves each move as idle as it was
+idle-again : (m : Move) (r : Run) → is_idle m (begun r) ≡ is_idle m r
+idle-again O r = refl
+idle-again S r = refl
+idle-again T r = refl
+idle-again D r = refl
+
+-- ---- idle moves of a run
+
+-- some moves were made behind others, and told nothing
+pub record Rested (w : World) (sooner ms : Moves) (before here : Outside) : Type 0 where
+  pub made : GoesOn w (opened_run w) ms
+  pub goes : (run w ms).end ≡ None
+  pub heard : AreHeard w ms before here
+  pub told : trace w ms ≡ trace w sooner
+
+rest-one : (w : World) (sooner ms : Moves) (m : Move) (before here : Outside) → Rested w sooner ms before here → is_idle m (run w ms) ≡ true
+    → Rested w sooner (ms ++ (m, Usual) ∷ []) before here × (is_idle m (run w (ms ++ (m, Usual) ∷ [])) ≡ true)
+rest-one w sooner ms m before here was idle =
+    let r : Run = run w ms in
+    let next : run w (ms ++ (m, Usual) ∷ []) ≡ begun r = (moves_add_up w ms (m, Usual)).next ∙ step-idle w r (m, Usual) was.goes idle in (
+      record {
+        made = goes-snoc w (opened_run w) ms (m, Usual) was.made was.goes;
+        goes = ap (λ q. q.end) next ∙ was.goes;
+        heard = next_is_heard w ms m Usual before here here was.heard (idle-hears w r m here was.goes idle);
+        told = trace-snoc w (m, Usual) (opened_run w) ms ∙ ap (λ q. trace w ms ++ told_by q q.notes) next ∙ append-nil (trace w ms) ∙ was.told;
+      },
+      ap (is_idle m) next ∙ idle-again m r ∙ idle,
+    )
+
+-- so many of a move
+abbrev pub idles : ℕ → Move → Moves
+idles k m = replicate k (m, Usual)
+
+rest-many : (k : ℕ) (w : World) (sooner ms : Moves) (m : Move) (before here : Outside) → Rested w sooner ms before here → is_idle m (run w ms) ≡ true
+    → Rested w sooner (ms ++ idles k m) before here
+rest-many zero w sooner ms m before here was idle = subst (λ l. Rested w sooner l before here) (sym (append-nil ms)) was
+rest-many (suc k) w sooner ms m before here was idle =
+    let one = rest-one w sooner ms m before here was idle in
+    subst (λ l. Rested w sooner l before here) (append_assoc ms ((m, Usual) ∷ []) (idles k m)) (rest-many k w sooner (ms ++ (m, Usual) ∷ []) m before here one.0 one.1)
+
+-- ---- what a runner makes of them
+
+run-append : (w : World) (r : Run) (ms more : Moves) → run_from w r (ms ++ more) ≡ run_from w (run_from w r ms) more
+unfolding run_from
+run-append w r [] more = refl
+run-append w r (m ∷ ms) more = run-append w (step w r m) ms more
+
+are-idle : (k : ℕ) (m : Move) (r : Run) → is_idle m r ≡ true → AreIdle r (idles k m)
+are-idle zero m r e = tt
+are-idle (suc k) m r e = (e, are-idle k m r e)
+
+idles-length : (k : ℕ) (m : Move) → length (idles k m) ≡ k
+idles-length zero m = refl
+idles-length (suc k) m = ap suc (idles-length k m)
+
+idles-firsts : (k : ℕ) (m : Move) → firsts (idles k m) ≡ replicate k m
+idles-firsts zero m = refl
+idles-firsts (suc k) m = ap (λ l. m ∷ l) (idles-firsts k m)
+
+-- a runner shows the run behind so many moves that are idle
+abbrev pub Rests : ℕ → Runner → Runner → Type 0
+Rests k now new = (w : World) (r : Run) (ms : Moves) → Shows now w r → r.end ≡ None → AreIdle r ms → length ms ≡ k → Shows new w (run_from w r ms)
+
+module _ (pattern : Pattern) (turns : ℕ) (old now new : Runner) (m : Move) (k : ℕ) (left : List Move) (rests : (w : World) (r : Run) → Shows now w r → true ≡ is_idle m r) (rest : Rests k now new) where
+  rest-all : (before here : Outside) (log : Progress pattern turns (replicate k m ++ left) old now before here) (w : World) → HasMade w log.ms now before here
+      → Rested w log.ms (log.ms ++ idles k m) before here
+  rest-all before here log w has =
+      rest-many k w log.ms log.ms m before here (record { made = has.made; goes = has.goes; heard = has.heard; told = refl }) (sym (rests w (run w log.ms) has.shows))
+
+  pub rest-Progress : (before here : Outside) → Progress pattern turns (replicate k m ++ left) old now before here → Progress pattern turns left old new before here
+  rest-Progress before here log =
+      record {
+        ms = log.ms ++ idles k m;
+        schedule =
+            ap (λ l. l ++ left) (map-append (λ n. n.0) log.ms (idles k m) ∙ ap (λ l. firsts log.ms ++ l) (idles-firsts k m))
+            ∙ append_assoc (firsts log.ms) (replicate k m) left ∙ log.schedule;
+        said = log.said;
+        told = log.told;
+        files = log.files;
+        went = λ w acc shows holds. (
+            let has = log.went w acc shows holds in
+            let all = rest-all before here log w has in
+            record {
+              made = all.made;
+              goes = all.goes;
+              shows =
+                  subst (λ r. Shows new w r) (sym (run-append w (opened_run w) log.ms (idles k m)))
+                  (rest w (run w log.ms) (idles k m) has.shows has.goes (are-idle k m (run w log.ms) (sym (rests w (run w log.ms) has.shows))) (idles-length k m));
+              heard = all.heard;
+            });
+      }
+
+  pub rest-TraceProgress : (store here : StoreState) (out out_here : SinkState) → TraceProgress pattern turns (replicate k m ++ left) old now store out here out_here
+      → TraceProgress pattern turns left old new store out here out_here
+  unfolding rest-Progress
+  rest-TraceProgress store here out out_here log =
+      record {
+        drives = rest-Progress (over_bottomless store) (over_bottomless here) log.drives;
+        puts = λ w acc shows holds. (
+            let all = rest-all (over_bottomless store) (over_bottomless here) log.drives w (log.drives.went w acc shows holds) in
+            subst (λ notes. ArePut out (map told_line notes) out_here) (sym all.told) (log.puts w acc shows holds));
+      }

@@ -1,0 +1,41 @@
+use Rattle.std.proofs.Common.{◌≡◌, ◌∙◌, ◌+◌, ◌-◌, ◌∷◌, ◌++◌, sym, arith}
+use Rattle.std.specs.Prelude.{replicate}
+use Rattle.program_driver.proofs.Driven.{moves-Progress, next-Progress, ended-Drives}
+use Rattle.program_driver.proofs.Idling.{rest-Progress}
+use Rattle.program_driver.proofs.Stretching.{first-of, none-left, all-left}
+use Rattle.program_driver.proofs.driving.drive_stretch.Goals as goal
+
+pub loop-made-init : goal.loop-made-init
+loop-made-init g c = record {
+  few = omega arith;
+  goes = λ pattern turns left start before log. (
+      moves-Progress pattern turns start c.args.runner.now before (record { store = g.D.Store.state c.args.store.now; out = g.O.Sink.state c.args.out.now; err = g.E.Sink.state c.args.err.now })
+      (replicate c.args.count c.args.step ++ left) (replicate (c.args.count - 0) c.args.step ++ left) (sym (all-left c.args.count c.args.step left)) log);
+}
+
+pub loop-made-preserved : goal.loop-made-preserved
+loop-made-preserved g c = record {
+  few = omega (arith, c.loop-made.invariant.few, c.advance.ensures.moves);
+  goes = λ pattern turns left start before log. (
+      next-Progress pattern turns start c.loop-made.runner c.advance.new.runner before (record { store = g.D.Store.state c.loop-made.store; out = g.O.Sink.state c.loop-made.out; err = g.E.Sink.state c.loop-made.err }) (record { store = g.D.Store.state c.advance.new.store; out = g.O.Sink.state c.advance.new.out; err = g.E.Sink.state c.advance.new.err }) c.args.step (replicate (c.args.count - (c.loop-made.made + 1)) c.args.step ++ left)
+      (moves-Progress pattern turns start c.loop-made.runner before (record { store = g.D.Store.state c.loop-made.store; out = g.O.Sink.state c.loop-made.out; err = g.E.Sink.state c.loop-made.err }) (replicate (c.args.count - c.loop-made.made) c.args.step ++ left) (c.args.step ∷ (replicate (c.args.count - (c.loop-made.made + 1)) c.args.step ++ left))
+      (first-of c.loop-made.made c.args.count c.args.step left c.loop-made-test.true) (c.loop-made.invariant.goes pattern turns left start before log))
+      c.in_default.ensures.advances c.advance.ensures.files);
+}
+
+pub returns-then-rests-clause-goes : goal.returns-then-rests-clause-goes
+returns-then-rests-clause-goes g c pattern turns left start before log =
+    rest-Progress pattern turns start c.loop-made.runner c.rest.new.self c.args.step (c.args.count - c.loop-made.made) left
+    (λ w r shows. (sym c.if-rests.true ∙ c.rests.ensures w r shows)) c.rest.ensures.shows before (record { store = g.D.Store.state c.loop-made.store; out = g.O.Sink.state c.loop-made.out; err = g.E.Sink.state c.loop-made.err }) (c.loop-made.invariant.goes pattern turns left start before log)
+
+pub returns-in-Some-clause-goes : goal.returns-in-Some-clause-goes
+returns-in-Some-clause-goes g c pattern turns left start before log =
+    ended-Drives pattern turns start c.loop-made.runner c.advance.new.runner before (record { store = g.D.Store.state c.loop-made.store; out = g.O.Sink.state c.loop-made.out; err = g.E.Sink.state c.loop-made.err }) (record { store = g.D.Store.state c.advance.new.store; out = g.O.Sink.state c.advance.new.out; err = g.E.Sink.state c.advance.new.err }) c.args.step (replicate (c.args.count - (c.loop-made.made + 1)) c.args.step ++ left)
+    (moves-Progress pattern turns start c.loop-made.runner before (record { store = g.D.Store.state c.loop-made.store; out = g.O.Sink.state c.loop-made.out; err = g.E.Sink.state c.loop-made.err }) (replicate (c.args.count - c.loop-made.made) c.args.step ++ left) (c.args.step ∷ (replicate (c.args.count - (c.loop-made.made + 1)) c.args.step ++ left))
+    (first-of c.loop-made.made c.args.count c.args.step left c.loop-made-test.true) (c.loop-made.invariant.goes pattern turns left start before log))
+    c.in-Some.ending c.in-Some.ensures.advances
+
+pub returns-clause-goes : goal.returns-clause-goes
+returns-clause-goes g c pattern turns left start before log =
+    moves-Progress pattern turns start c.loop-made.runner before (record { store = g.D.Store.state c.loop-made.store; out = g.O.Sink.state c.loop-made.out; err = g.E.Sink.state c.loop-made.err }) (replicate (c.args.count - c.loop-made.made) c.args.step ++ left) left
+    (none-left c.loop-made.made c.args.count c.args.step left (omega (arith, c.loop-made-test.false))) (c.loop-made.invariant.goes pattern turns left start before log)

@@ -1,0 +1,16 @@
+use Rattle.std.proofs.Common.{ℕ, ◌+◌, ◌-◌, ◌≤◌, List, ◌++◌}
+use Rattle.std.specs.Prelude.{replicate}
+use Rattle.spec_base.specs.declared.note.Move.{Move}
+use Rattle.run_model.specs.Patterns.{Pattern}
+use Rattle.world_io.specs.Outside.{SinkState, StoreState}
+use Rattle.runner.specs.declared.runner.Runner.{Runner}
+use Rattle.program_driver.specs.Progress.{TraceProgress}
+use Rattle.program_driver.proofs.tracing.trace_stretch.Given as goal
+
+abbrev pub invariant-loop-made : goal.invariant-loop-made
+invariant-loop-made g l = record {
+  few : l.runner.counts.moves ≤ l.fn.runner.counts.moves + l.made;
+  goes : (pattern : Pattern) (turns : ℕ) (left : List Move) (start : Runner) (first : StoreState) (empty : SinkState)
+      → TraceProgress pattern turns (replicate l.count l.step ++ left) start l.fn.runner first empty (g.D.Store.state l.fn.store) (g.O.Sink.state l.fn.out)
+      → TraceProgress pattern turns (replicate (l.count - l.made) l.step ++ left) start l.runner first empty (g.D.Store.state l.store) (g.O.Sink.state l.out);
+}

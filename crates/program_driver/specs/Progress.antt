@@ -1,0 +1,65 @@
+-- How far a runner has come with the moves of a pattern (this project's own).
+use Rattle.std.specs.Prelude.{◌≡◌, ℕ, List, ◌++◌, map, replicate, Option, Some, None}
+use Rattle.spec_base.specs.Files.{Files}
+use Rattle.spec_base.specs.declared.note.Move.{Move}
+use Rattle.run_model.specs.Run.{World, opened_run}
+use Rattle.run_model.specs.Moves.{Moves, run}
+use Rattle.run_model.specs.Patterns.{Pattern, pattern_moves}
+use Rattle.run_laws.specs.OwnLaws.{Accepted}
+use Rattle.world_io.specs.Outside.{SinkState, StoreState}
+use Rattle.plain_runner.specs.Runs.{Outside}
+use Rattle.plain_runner.specs.declared.ending.Ending.{Ending}
+use Rattle.move_requests.specs.Hears.{AreHeard}
+use Rattle.run_promises.specs.Schedules.{GoesOn, MovesTo}
+use Rattle.runner_parts.specs.Heard.{Said, AreTrueOf}
+use Rattle.runner.specs.Shows.{Shows}
+use Rattle.runner.specs.declared.runner.Runner.{Runner}
+use Rattle.program_driver.specs.Lines.{ArePut}
+use Rattle.program_driver.specs.Runs.{Drives}
+use Rattle.program_driver.specs.Traces.{TracesTo, trace_lines, over_bottomless, with_err}
+
+-- ---- a run
+
+-- these moves were made in a world, and the run goes on
+pub record HasMade (w : World) (ms : Moves) (now : Runner) (before here : Outside) : Type 0 where
+  pub made : GoesOn w (opened_run w) ms
+  pub goes : (run w ms).end ≡ None
+  pub shows : Shows now w (run w ms)
+  pub heard : AreHeard w ms before here
+
+-- of the moves of a pattern these are still to come, and the others were made, over any files of which what the store said is true
+pub record Progress (pattern : Pattern) (turns : ℕ) (left : List Move) (old now : Runner) (before here : Outside) : Type 0 where
+  pub ms : Moves
+  pub schedule : map (λ m. m.0) ms ++ left ≡ pattern_moves pattern turns
+  pub said : List Said
+  pub told : (files : Files) → before.store.files ≡ Some files → AreTrueOf files said
+  pub files : here.store.files ≡ before.store.files
+  pub went : (w : World) → Accepted w → Shows old w (opened_run w) → AreTrueOf w.files said → HasMade w ms now before here
+
+-- the run goes on so, or has come to this ending
+abbrev pub ProgressTo : Pattern → ℕ → List Move → Runner → Option Ending → Runner → Outside → Outside → Type 0
+ProgressTo pattern turns left old None new before after = Progress pattern turns left old new before after
+ProgressTo pattern turns left old (Some ending) new before after = Drives (MovesTo pattern turns ending) old new before after
+
+-- a move is made so many times, whatever moves were made before it and whatever come behind it
+abbrev pub MakesStretch : Move → ℕ → Option Ending → Runner → Runner → Outside → Outside → Type 0
+MakesStretch m count ending now new here after =
+    (pattern : Pattern) (turns : ℕ) (left : List Move) (old : Runner) (before : Outside) → Progress pattern turns (replicate count m ++ left) old now before here
+    → ProgressTo pattern turns left old ending new before after
+
+-- ---- a trace
+
+-- the same of a trace, whose lines were put
+pub record TraceProgress (pattern : Pattern) (turns : ℕ) (left : List Move) (old now : Runner) (store : StoreState) (out : SinkState) (store_now : StoreState) (out_now : SinkState) : Type 0 where
+  pub drives : Progress pattern turns left old now (over_bottomless store) (over_bottomless store_now)
+  pub puts : (w : World) → Accepted w → Shows old w (opened_run w) → AreTrueOf w.files drives.said → ArePut out (trace_lines w drives.ms) out_now
+
+abbrev pub TraceProgressTo : Pattern → ℕ → List Move → Runner → Option Ending → Runner → StoreState → SinkState → StoreState → SinkState → Type 0
+TraceProgressTo pattern turns left old None new store out store_after out_after = TraceProgress pattern turns left old new store out store_after out_after
+TraceProgressTo pattern turns left old (Some ending) new store out store_after out_after =
+    (err : SinkState) → Drives (TracesTo pattern turns ending) old new (with_err err store out) (with_err err store_after out_after)
+
+abbrev pub TracesStretch : Move → ℕ → Option Ending → Runner → Runner → StoreState → SinkState → StoreState → SinkState → Type 0
+TracesStretch m count ending now new here out_here after out_after =
+    (pattern : Pattern) (turns : ℕ) (left : List Move) (old : Runner) (store : StoreState) (out : SinkState)
+    → TraceProgress pattern turns (replicate count m ++ left) old now store out here out_here → TraceProgressTo pattern turns left old ending new store out after out_after
