@@ -1,3 +1,3 @@
 pub mod FirstStates
-mod Undamaged
+pub mod Undamaged
 pub mod Texts
