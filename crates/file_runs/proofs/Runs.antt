@@ -52,8 +52,8 @@ unless-none (Some p) bytes file e = absurd (let bad = e in cc)
 -- ---- programs that run alike
 
 -- a program whose plain run is that of another does as that one
-alike-IsAsPlain : (v w : World) (ending : Ending) (old new : Outside) → SamePlain v w → IsAsPlain w.image w.files ending old new → IsAsPlain v.image v.files ending old new
-alike-IsAsPlain v w ending old new same h =
+alike-IsAsPlain : (v w : World) (ending : Ending) (old new : Outside) → v.files ≡ w.files → SamePlain v w → IsAsPlain w.image w.files ending old new → IsAsPlain v.image v.files ending old new
+alike-IsAsPlain v w ending old new files same h =
     record {
       n = h.n;
       state = h.state;
@@ -119,11 +119,11 @@ run_worlds_are_accepted regions version bytes file arguments files h = (promised
 pub runs_are_as_plain : RunsAreAsPlain
 runs_are_as_plain regions version bytes file arguments files h pattern turns ending ms old new to =
     let p = promised regions version bytes file arguments files h in
-    alike-IsAsPlain _ (run_world file arguments files) ending old new p.alike (moves_are_as_plain pattern turns ending (run_world file arguments files) ms old new p.accepted to)
+    alike-IsAsPlain _ (run_world file arguments files) ending old new refl p.alike (moves_are_as_plain pattern turns ending (run_world file arguments files) ms old new p.accepted to)
 
 -- a program whose plain run is that of another comes to the same end
-alike-ComesTo : (v w : World) (n : ℕ) (end : Ending) → SamePlain v w → ComesTo v.image v.files n end → ComesTo w.image w.files n end
-alike-ComesTo v w n end same h =
+alike-ComesTo : (v w : World) (n : ℕ) (end : Ending) → v.files ≡ w.files → SamePlain v w → ComesTo v.image v.files n end → ComesTo w.image w.files n end
+alike-ComesTo v w n end files same h =
     record {
       state = h.state;
       reached = same.state all_taken n ∙ h.reached;
@@ -134,7 +134,7 @@ pub runs_finish : RunsFinish
 runs_finish regions version bytes file arguments files h pattern turns ending ms old new to out err n end comes enough =
     let p = promised regions version bytes file arguments files h in
     moves_finish pattern turns ending (run_world file arguments files) ms old new p.accepted to out err n end
-    (alike-ComesTo _ (run_world file arguments files) n end p.alike comes) enough
+    (alike-ComesTo _ (run_world file arguments files) n end refl p.alike comes) enough
 
 pub runs_get_on : RunsGetOn
 runs_get_on regions version bytes file arguments files h pattern turns ending ms old new to =
