@@ -36,13 +36,11 @@ fn a_pattern_is_repeated(rt: HostRuntime) -> Result<(), Fail> {
     assert_eq!(rt; stretches(alloc, &pattern, 0)?.len(), 0);
     assert_eq!(rt;
         stretches(alloc, &pattern, 6)?.as_slice(),
-        &[
-            (Move::O, 1),
+        [(Move::O, 1),
             (Move::S, 2),
             (Move::D, 1),
             (Move::O, 1),
-            (Move::S, 1)
-        ]
+            (Move::S, 1)].as_slice()
     );
     Ok(())
 }
@@ -60,7 +58,7 @@ fn line_over(alloc: Global, fails: &[u64]) -> Result<(Vec<u8>, Result<(), LineFa
 fn a_line_is_put_until_it_is_whole(rt: HostRuntime) -> Result<(), Fail> {
     let alloc = rt.alloc();
     let (bytes, answer) = line_over(alloc, &[])?;
-    assert_eq!(rt; bytes.as_slice(), b"ab\n");
+    assert_eq!(rt; bytes.as_slice(), b"ab\n".as_slice());
     assert_eq!(rt; answer, Ok(()));
     Ok(())
 }
@@ -69,7 +67,7 @@ fn a_line_is_put_until_it_is_whole(rt: HostRuntime) -> Result<(), Fail> {
 fn a_failed_put_is_the_last(rt: HostRuntime) -> Result<(), Fail> {
     let alloc = rt.alloc();
     let (bytes, answer) = line_over(alloc, &[2])?;
-    assert_eq!(rt; bytes.as_slice(), b"a");
+    assert_eq!(rt; bytes.as_slice(), b"a".as_slice());
     assert_eq!(rt; answer, Err(LineFault::Sink));
     Ok(())
 }
