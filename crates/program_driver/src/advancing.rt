@@ -6,7 +6,8 @@ ghost use Rattle.runner.specs.Shows.{Shows};
 ghost use Rattle.program_driver.specs.Advances.{Advances, ending_in, ending_after, is_starved};
 
 use plain_runner::Ending;
-use runner::{End, Runner, Turn};
+use runner::Runner;
+use runner_parts::{End, Turn};
 use spec_base::Move;
 use world_io::{Sink, Store};
 

@@ -36,11 +36,14 @@ fn a_pattern_is_repeated(rt: HostRuntime) -> Result<(), Fail> {
     assert_eq!(rt; stretches(alloc, &pattern, 0)?.len(), 0);
     assert_eq!(rt;
         stretches(alloc, &pattern, 6)?.as_slice(),
-        [(Move::O, 1),
+        [
+            (Move::O, 1),
             (Move::S, 2),
             (Move::D, 1),
             (Move::O, 1),
-            (Move::S, 1)].as_slice()
+            (Move::S, 1)
+        ]
+        .as_slice()
     );
     Ok(())
 }
