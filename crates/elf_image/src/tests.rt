@@ -140,272 +140,348 @@ fn answer(given: &Result<Image, ReadFault>) -> &'static str {
     }
 }
 
-#[test]
-fn refuses_truncated_files(rt: HostRuntime) -> Result<(), Fail> {
-    let alloc = rt.alloc();
-    let plain = exits(alloc)?;
-    let linked = linked(alloc)?;
-    let rows = [
-        (plain.as_slice(), 0, 64, "Short"),
-        (plain.as_slice(), 64, 120, "HeaderTable"),
-        (plain.as_slice(), 120, 132, "Segment"),
-        (plain.as_slice(), 132, 133, "accepted"),
-        (linked.as_slice(), 0, 64, "Short"),
-        (linked.as_slice(), 64, 176, "HeaderTable"),
-        (linked.as_slice(), 176, 4096, "Segment"),
-        (linked.as_slice(), 4096, 4288, "Sections"),
-        (linked.as_slice(), 4288, 4289, "accepted"),
-    ];
-    for (file, from, to, want) in rows {
-        for length in from..to {
-            let part = file.get(..length).unwrap_or(&[]);
-            assert_eq!(rt; answer(&read(alloc, part)), want, "at length {length}");
+fn answers(alloc: Global, file: &[u8], want: &str) -> bool {
+    answer(&read(alloc, file)) == want
+}
+
+/// The first length from one on and below another at which a file's front gives another answer.
+fn first_other_length(
+    alloc: Global,
+    file: &[u8],
+    from: usize,
+    to: usize,
+    want: &str,
+) -> Option<usize> {
+    for length in from..to {
+        if !answers(alloc, file.get(..length).unwrap_or(&[]), want) {
+            return Some(length);
         }
     }
+    None
+}
+
+/// The lengths below which the front of the file that exits gives these answers, in order.
+const CUTS_OF_PLAIN: [(usize, &str); 4] = [
+    (64, "Short"),
+    (120, "HeaderTable"),
+    (132, "Segment"),
+    (133, "accepted"),
+];
+
+/// The same of the linked file.
+const CUTS_OF_LINKED: [(usize, &str); 5] = [
+    (64, "Short"),
+    (176, "HeaderTable"),
+    (4096, "Segment"),
+    (4288, "Sections"),
+    (4289, "accepted"),
+];
+
+fn first_wrong_length(alloc: Global, file: &[u8], cuts: &[(usize, &str)]) -> Option<usize> {
+    let mut from = 0;
+    for (to, want) in cuts {
+        let wrong = first_other_length(alloc, file, from, *to, want);
+        if wrong.is_some() {
+            return wrong;
+        }
+        from = *to;
+    }
+    None
+}
+
+#[test]
+fn refuses_truncated_files(rt: HostRuntime) -> Result<(), Fail> {
+    let plain = exits(rt.alloc())?;
+    assert_eq!(rt;
+        first_wrong_length(rt.alloc(), &plain, &CUTS_OF_PLAIN),
+        None
+    );
+    let linked = linked(rt.alloc())?;
+    assert_eq!(rt;
+        first_wrong_length(rt.alloc(), &linked, &CUTS_OF_LINKED),
+        None
+    );
     Ok(())
 }
+
+/// A change of a file: an offset, a number and its bytes.
+type Change = (usize, u64, usize);
+
+const NONE: Change = (0, 0, 0);
+
+const TOP: u64 = u64::MAX;
+
+/// The row whose changes of a file give another answer.
+fn first_wrong_change(
+    alloc: Global,
+    file: &[u8],
+    rows: &[([Change; 2], &str)],
+) -> Result<Option<usize>, AllocError> {
+    for (i, (changes, want)) in rows.iter().enumerate() {
+        if !answers(alloc, &changed(alloc, file, changes)?, want) {
+            return Ok(Some(i));
+        }
+    }
+    Ok(None)
+}
+
+/// Changes of the file that exits, and the answers.
+const REASONS: [([Change; 2], &str); 53] = [
+    ([NONE, NONE], "accepted"),
+    ([(0, 0x7E, 1), NONE], "Magic"),
+    ([(3, 0x47, 1), (4, 1, 1)], "Magic"),
+    ([(4, 1, 1), NONE], "Class"),
+    ([(5, 2, 1), NONE], "ByteOrder"),
+    ([(6, 0, 1), NONE], "Version"),
+    ([(20, 2, 4), NONE], "Version"),
+    ([(16, 3, 2), NONE], "Kind"),
+    ([(16, 3, 2), (64, 3, 4)], "Kind"),
+    ([(18, 62, 2), NONE], "Machine"),
+    ([(48, 5, 4), NONE], "Flags"),
+    ([(48, 1, 4), NONE], "Flags"),
+    ([(48, 8, 4), (54, 0, 2)], "Flags"),
+    ([(48, 0x10, 4), NONE], "accepted"),
+    ([(54, 57, 2), NONE], "HeaderTable"),
+    ([(56, 0, 2), NONE], "HeaderTable"),
+    ([(56, 65, 2), NONE], "HeaderTable"),
+    ([(56, 0xFFFF, 2), NONE], "HeaderTable"),
+    ([(32, 77, 8), NONE], "HeaderTable"),
+    ([(32, TOP, 8), NONE], "HeaderTable"),
+    ([(64, 2, 4), NONE], "Dynamic"),
+    ([(64, 3, 4), NONE], "Dynamic"),
+    ([(64, 0x6053_4831, 4), NONE], "Already"),
+    ([(64, 0, 4), NONE], "NoText"),
+    ([(68, 4, 4), NONE], "NoText"),
+    ([(96, 0, 8), (104, 0, 8)], "NoText"),
+    ([(96, 0, 8), NONE], "NoText"),
+    ([(96, 13, 8), NONE], "Segment"),
+    ([(96, 13, 8), (104, 13, 8)], "Segment"),
+    ([(96, TOP, 8), (104, TOP, 8)], "Segment"),
+    ([(104, TOP, 8), NONE], "Segment"),
+    ([(72, 121, 8), NONE], "Segment"),
+    ([(72, TOP, 8), NONE], "Segment"),
+    ([(80, 0xFFC, 8), NONE], "Segment"),
+    ([(80, TOP, 8), NONE], "Segment"),
+    ([(80, 0x3FEF_FFF8, 8), NONE], "Segment"),
+    ([(80, 0x3FEF_FFF4, 8), NONE], "Entry"),
+    ([(80, 0x3FEF_FFF4, 8), (24, 0x3FEF_FFF4, 8)], "accepted"),
+    ([(80, 0x1000, 8), (24, 0x1008, 8)], "accepted"),
+    ([(60, 1, 2), NONE], "Sections"),
+    ([(60, 1, 2), (58, 65, 2)], "Sections"),
+    ([(60, 3, 2), (58, 64, 2)], "Sections"),
+    ([(60, 1, 2), (80, 0x1_007A, 8)], "Sections"),
+    ([(60, 1, 2), (58, 64, 2)], "accepted"),
+    ([(40, TOP, 8), NONE], "accepted"),
+    ([(80, 0x1_007A, 8), NONE], "Text"),
+    ([(96, 10, 8), NONE], "Text"),
+    ([(96, 2, 8), (24, 0, 8)], "Text"),
+    ([(24, 0x1_0074, 8), NONE], "Entry"),
+    ([(24, 0x1_007A, 8), NONE], "Entry"),
+    ([(24, 0x1_0084, 8), NONE], "Entry"),
+    ([(24, TOP, 8), NONE], "Entry"),
+    ([(24, 0x1_0080, 8), NONE], "accepted"),
+];
 
 #[test]
 fn tells_the_first_reason(rt: HostRuntime) -> Result<(), Fail> {
-    let alloc = rt.alloc();
-    let top = u64::MAX;
-    let none = (0, 0, 0);
-    let rows = [
-        ([none, none], "accepted"),
-        ([(0, 0x7E, 1), none], "Magic"),
-        ([(3, 0x47, 1), (4, 1, 1)], "Magic"),
-        ([(4, 1, 1), none], "Class"),
-        ([(5, 2, 1), none], "ByteOrder"),
-        ([(6, 0, 1), none], "Version"),
-        ([(20, 2, 4), none], "Version"),
-        ([(16, 3, 2), none], "Kind"),
-        ([(16, 3, 2), (64, 3, 4)], "Kind"),
-        ([(18, 62, 2), none], "Machine"),
-        ([(48, 5, 4), none], "Flags"),
-        ([(48, 1, 4), none], "Flags"),
-        ([(48, 8, 4), (54, 0, 2)], "Flags"),
-        ([(48, 0x10, 4), none], "accepted"),
-        ([(54, 57, 2), none], "HeaderTable"),
-        ([(56, 0, 2), none], "HeaderTable"),
-        ([(56, 65, 2), none], "HeaderTable"),
-        ([(56, 0xFFFF, 2), none], "HeaderTable"),
-        ([(32, 77, 8), none], "HeaderTable"),
-        ([(32, top, 8), none], "HeaderTable"),
-        ([(64, 2, 4), none], "Dynamic"),
-        ([(64, 3, 4), none], "Dynamic"),
-        ([(64, 0x6053_4831, 4), none], "Already"),
-        ([(64, 0, 4), none], "NoText"),
-        ([(68, 4, 4), none], "NoText"),
-        ([(96, 0, 8), (104, 0, 8)], "NoText"),
-        ([(96, 0, 8), none], "NoText"),
-        ([(96, 13, 8), none], "Segment"),
-        ([(96, 13, 8), (104, 13, 8)], "Segment"),
-        ([(96, top, 8), (104, top, 8)], "Segment"),
-        ([(104, top, 8), none], "Segment"),
-        ([(72, 121, 8), none], "Segment"),
-        ([(72, top, 8), none], "Segment"),
-        ([(80, 0xFFC, 8), none], "Segment"),
-        ([(80, top, 8), none], "Segment"),
-        ([(80, 0x3FEF_FFF8, 8), none], "Segment"),
-        ([(80, 0x3FEF_FFF4, 8), none], "Entry"),
-        ([(80, 0x3FEF_FFF4, 8), (24, 0x3FEF_FFF4, 8)], "accepted"),
-        ([(80, 0x1000, 8), (24, 0x1008, 8)], "accepted"),
-        ([(60, 1, 2), none], "Sections"),
-        ([(60, 1, 2), (58, 65, 2)], "Sections"),
-        ([(60, 3, 2), (58, 64, 2)], "Sections"),
-        ([(60, 1, 2), (80, 0x1_007A, 8)], "Sections"),
-        ([(60, 1, 2), (58, 64, 2)], "accepted"),
-        ([(40, top, 8), none], "accepted"),
-        ([(80, 0x1_007A, 8), none], "Text"),
-        ([(96, 10, 8), none], "Text"),
-        ([(96, 2, 8), (24, 0, 8)], "Text"),
-        ([(24, 0x1_0074, 8), none], "Entry"),
-        ([(24, 0x1_007A, 8), none], "Entry"),
-        ([(24, 0x1_0084, 8), none], "Entry"),
-        ([(24, top, 8), none], "Entry"),
-        ([(24, 0x1_0080, 8), none], "accepted"),
-    ];
-    let file = exits(alloc)?;
-    for (changes, want) in rows.iter() {
-        let file = changed(alloc, &file, changes)?;
-        assert_eq!(rt; answer(&read(alloc, &file)), *want, "at {changes:?}");
-    }
+    let file = exits(rt.alloc())?;
+    assert_eq!(rt; first_wrong_change(rt.alloc(), &file, &REASONS)?, None);
     Ok(())
 }
 
+/// Changes of the linked file, and the answers. The text's section has its flags at 0x1048, its
+/// address at 0x1050 and its size at 0x1060.
+const OF_SECTIONS: [([Change; 2], &str); 19] = [
+    ([NONE, NONE], "accepted"),
+    ([(60, 0, 2), NONE], "accepted"),
+    ([(60, 0, 2), (40, TOP, 8)], "accepted"),
+    ([(40, 0x1001, 8), NONE], "Sections"),
+    ([(40, TOP, 8), NONE], "Sections"),
+    ([(58, 63, 2), NONE], "Sections"),
+    ([(60, 0xFFFF, 2), NONE], "Sections"),
+    ([(0x1048, 4, 8), (0x1060, TOP, 8)], "accepted"),
+    ([(0x1048, 2, 8), (0x1050, 0, 8)], "accepted"),
+    ([(0x1060, 0, 8), NONE], "accepted"),
+    ([(0x1060, 0x2A, 8), NONE], "Text"),
+    ([(0x1060, 0x1000, 8), NONE], "Text"),
+    ([(0x1060, TOP, 8), NONE], "Text"),
+    ([(0x1050, 0xFFFC, 8), NONE], "Text"),
+    ([(0x1050, 0x1_00EA, 8), NONE], "Text"),
+    ([(0x1050, TOP, 8), NONE], "Text"),
+    ([(0x1050, 0x1_00EC, 8), NONE], "Entry"),
+    // The last section is made text too, so that the text goes on to its end.
+    ([(0x1088, 6, 8), NONE], "Text"),
+    ([(0x1088, 6, 8), (0x10A0, 4, 8)], "accepted"),
+];
+
 #[test]
 fn judges_sections(rt: HostRuntime) -> Result<(), Fail> {
-    let alloc = rt.alloc();
-    let top = u64::MAX;
-    let none = (0, 0, 0);
-    // The text's section has its flags at 0x1048, its address at 0x1050 and its size at 0x1060.
-    let rows = [
-        ([none, none], "accepted"),
-        ([(60, 0, 2), none], "accepted"),
-        ([(60, 0, 2), (40, top, 8)], "accepted"),
-        ([(40, 0x1001, 8), none], "Sections"),
-        ([(40, top, 8), none], "Sections"),
-        ([(58, 63, 2), none], "Sections"),
-        ([(60, 0xFFFF, 2), none], "Sections"),
-        ([(0x1048, 4, 8), (0x1060, top, 8)], "accepted"),
-        ([(0x1048, 2, 8), (0x1050, 0, 8)], "accepted"),
-        ([(0x1060, 0, 8), none], "accepted"),
-        ([(0x1060, 0x2A, 8), none], "Text"),
-        ([(0x1060, 0x1000, 8), none], "Text"),
-        ([(0x1060, top, 8), none], "Text"),
-        ([(0x1050, 0xFFFC, 8), none], "Text"),
-        ([(0x1050, 0x1_00EA, 8), none], "Text"),
-        ([(0x1050, top, 8), none], "Text"),
-        ([(0x1050, 0x1_00EC, 8), none], "Entry"),
-        // The last section is made text too, so that the text goes on to its end.
-        ([(0x1088, 6, 8), none], "Text"),
-        ([(0x1088, 6, 8), (0x10A0, 4, 8)], "accepted"),
-    ];
-    let file = linked(alloc)?;
-    for (changes, want) in rows.iter() {
-        let file = changed(alloc, &file, changes)?;
-        assert_eq!(rt; answer(&read(alloc, &file)), *want, "at {changes:?}");
-    }
+    let file = linked(rt.alloc())?;
+    assert_eq!(rt; first_wrong_change(rt.alloc(), &file, &OF_SECTIONS)?, None);
     Ok(())
+}
+
+const CODE: Entry = (1, 5, 0, 0x1_0000, 4, 16);
+
+const UNREAD: Entry = (7, 7, TOP, TOP, TOP, TOP);
+
+/// The entries of files, and the answers.
+const OF_SEGMENTS: [([Entry; 4], &str); 16] = [
+    // in order, with a thread-local entry and a stack entry that are passed over
+    (
+        [UNREAD, CODE, (1, 6, 0, 0x1_0010, 4, 4), UNREAD],
+        "accepted",
+    ),
+    (
+        [
+            CODE,
+            (1, 6, 0, 0x1_0010, 0, 4),
+            UNREAD,
+            (1, 6, 0, 0x1_0014, 0, 4),
+        ],
+        "accepted",
+    ),
+    // an empty segment is passed over, wherever it is
+    (
+        [CODE, (1, 5, u64::MAX, 0, 0, 0), UNREAD, UNREAD],
+        "accepted",
+    ),
+    ([UNREAD, UNREAD, UNREAD, UNREAD], "NoText"),
+    ([CODE, (1, 7, 0, 0x2_0000, 4, 4), UNREAD, UNREAD], "NoText"),
+    (
+        [CODE, (1, 7, 0, 0x2_0000, 0, 4), UNREAD, UNREAD],
+        "accepted",
+    ),
+    // overlapping the one before, and one further back
+    ([CODE, (1, 6, 0, 0x1_000F, 4, 4), UNREAD, UNREAD], "Segment"),
+    ([CODE, UNREAD, (1, 6, 0, 0x1_0000, 4, 4), UNREAD], "Segment"),
+    (
+        [
+            CODE,
+            (1, 6, 0, 0x3_0000, 4, 4),
+            (1, 6, 0, 0x2_0000, 4, 4),
+            UNREAD,
+        ],
+        "Segment",
+    ),
+    (
+        [
+            CODE,
+            (1, 6, 0, 0x2_0000, 4, 0x100),
+            (1, 6, 0, 0x2_0080, 4, 4),
+            UNREAD,
+        ],
+        "Segment",
+    ),
+    // descending
+    ([(1, 6, 0, 0x2_0000, 4, 4), CODE, UNREAD, UNREAD], "Segment"),
+    // sums past 2^64
+    (
+        [CODE, (1, 6, u64::MAX, 0x2_0000, 4, 4), UNREAD, UNREAD],
+        "Segment",
+    ),
+    (
+        [CODE, (1, 6, 0, u64::MAX - 3, 4, 8), UNREAD, UNREAD],
+        "Segment",
+    ),
+    (
+        [CODE, (1, 6, 0, 0x2_0000, 4, u64::MAX), UNREAD, UNREAD],
+        "Segment",
+    ),
+    (
+        [
+            CODE,
+            (1, 6, 0, 0x2_0000, 4, 4),
+            (3, 0, 0, 0, 0, 0),
+            (0x6053_4831, 0, 0, 0, 0, 0),
+        ],
+        "Dynamic",
+    ),
+    (
+        [
+            CODE,
+            (1, 6, 0, 0, 4, 4),
+            UNREAD,
+            (0x6053_4831, 0, 0, 0, 0, 0),
+        ],
+        "Already",
+    ),
+];
+
+fn first_wrong_table(alloc: Global) -> Result<Option<usize>, AllocError> {
+    for (i, (entries, want)) in OF_SEGMENTS.iter().enumerate() {
+        if !answers(alloc, &file_of(alloc, 0x1_0000, entries, &[])?, want) {
+            return Ok(Some(i));
+        }
+    }
+    Ok(None)
+}
+
+/// Whether a file with so many entries, of which the first is code, is answered so.
+fn answers_entries(alloc: Global, count: usize, want: &str) -> Result<bool, AllocError> {
+    let mut entries = vec![in alloc; CODE; 1]?;
+    entries.resize(count, (0, 0, 0, 0, 0, 0))?;
+    let file = file_of(alloc, 0x1_0000, &entries, &[])?;
+    Ok(answers(alloc, &file, want))
 }
 
 #[test]
 fn judges_segments(rt: HostRuntime) -> Result<(), Fail> {
-    let alloc = rt.alloc();
-    let code = (1, 5, 0, 0x1_0000, 4, 16);
-    let unread = (7, 7, u64::MAX, u64::MAX, u64::MAX, u64::MAX);
-    let rows = [
-        // in order, with a thread-local entry and a stack entry that are passed over
-        (
-            [unread, code, (1, 6, 0, 0x1_0010, 4, 4), unread],
-            "accepted",
-        ),
-        (
-            [
-                code,
-                (1, 6, 0, 0x1_0010, 0, 4),
-                unread,
-                (1, 6, 0, 0x1_0014, 0, 4),
-            ],
-            "accepted",
-        ),
-        // an empty segment is passed over, wherever it is
-        (
-            [code, (1, 5, u64::MAX, 0, 0, 0), unread, unread],
-            "accepted",
-        ),
-        ([unread, unread, unread, unread], "NoText"),
-        ([code, (1, 7, 0, 0x2_0000, 4, 4), unread, unread], "NoText"),
-        (
-            [code, (1, 7, 0, 0x2_0000, 0, 4), unread, unread],
-            "accepted",
-        ),
-        // overlapping the one before, and one further back
-        ([code, (1, 6, 0, 0x1_000F, 4, 4), unread, unread], "Segment"),
-        ([code, unread, (1, 6, 0, 0x1_0000, 4, 4), unread], "Segment"),
-        (
-            [
-                code,
-                (1, 6, 0, 0x3_0000, 4, 4),
-                (1, 6, 0, 0x2_0000, 4, 4),
-                unread,
-            ],
-            "Segment",
-        ),
-        (
-            [
-                code,
-                (1, 6, 0, 0x2_0000, 4, 0x100),
-                (1, 6, 0, 0x2_0080, 4, 4),
-                unread,
-            ],
-            "Segment",
-        ),
-        // descending
-        ([(1, 6, 0, 0x2_0000, 4, 4), code, unread, unread], "Segment"),
-        // sums past 2^64
-        (
-            [code, (1, 6, u64::MAX, 0x2_0000, 4, 4), unread, unread],
-            "Segment",
-        ),
-        (
-            [code, (1, 6, 0, u64::MAX - 3, 4, 8), unread, unread],
-            "Segment",
-        ),
-        (
-            [code, (1, 6, 0, 0x2_0000, 4, u64::MAX), unread, unread],
-            "Segment",
-        ),
-        (
-            [
-                code,
-                (1, 6, 0, 0x2_0000, 4, 4),
-                (3, 0, 0, 0, 0, 0),
-                (0x6053_4831, 0, 0, 0, 0, 0),
-            ],
-            "Dynamic",
-        ),
-        (
-            [
-                code,
-                (1, 6, 0, 0, 4, 4),
-                unread,
-                (0x6053_4831, 0, 0, 0, 0, 0),
-            ],
-            "Already",
-        ),
-    ];
-    for (entries, want) in rows.iter() {
-        let file = file_of(alloc, 0x1_0000, entries, &[])?;
-        assert_eq!(rt; answer(&read(alloc, &file)), *want, "at {entries:?}");
-    }
-    for (count, want) in [(64, "accepted"), (65, "HeaderTable")] {
-        let mut entries = vec![in alloc; code; 1]?;
-        entries.resize(count, (0, 0, 0, 0, 0, 0))?;
-        let file = file_of(alloc, 0x1_0000, &entries, &[])?;
-        assert_eq!(rt; answer(&read(alloc, &file)), want, "with {count} entries");
-    }
+    assert_eq!(rt; first_wrong_table(rt.alloc())?, None);
+    assert!(rt; answers_entries(rt.alloc(), 64, "accepted")?);
+    assert!(rt; answers_entries(rt.alloc(), 65, "HeaderTable")?);
     Ok(())
+}
+
+/// Whether the file that exits, moved to 2^28, is answered so in a version.
+fn answers_high(alloc: Global, version: Version, want: &str) -> Result<bool, AllocError> {
+    let changes = [(24, 0x1000_0078, 8), (80, 0x1000_0078, 8)];
+    let high = changed(alloc, &exits(alloc)?, &changes)?;
+    Ok(answer(&read_as(alloc, &high, version)) == want)
+}
+
+/// Whether a text of so many words is answered so.
+fn answers_words(alloc: Global, count: usize, want: &str) -> Result<bool, AllocError> {
+    let text = vec![in alloc; 0x0000_0013; count]?;
+    Ok(answers(alloc, &one_segment(alloc, &text)?, want))
+}
+
+/// Whether a file of so many bytes is answered so.
+fn answers_bytes(alloc: Global, length: usize, want: &str) -> Result<bool, AllocError> {
+    let mut file = exits(alloc)?;
+    file.resize(length, 0)?;
+    Ok(answers(alloc, &file, want))
 }
 
 #[test]
 fn judges_versions_and_sizes(rt: HostRuntime) -> Result<(), Fail> {
-    let alloc = rt.alloc();
-    let high = changed(
-        alloc,
-        &exits(alloc)?,
-        &[(24, 0x1000_0078, 8), (80, 0x1000_0078, 8)],
-    )?;
-    assert_eq!(rt; answer(&read_as(alloc, &high, Version::Two)), "accepted");
-    assert_eq!(rt; answer(&read_as(alloc, &high, Version::One)), "Segment");
-    for (words, want) in [(262_144, "accepted"), (262_145, "Text")] {
-        let mut text = Vec::new(alloc);
-        text.resize(words, 0x0000_0013)?;
-        let file = one_segment(alloc, &text)?;
-        assert_eq!(rt; answer(&read(alloc, &file)), want, "with {words} words");
-    }
-    for (length, want) in [(67_108_864, "accepted"), (67_108_865, "TooLong")] {
-        let mut file = exits(alloc)?;
-        file.resize(length, 0)?;
-        assert_eq!(rt; answer(&read(alloc, &file)), want, "with {length} bytes");
-    }
+    assert!(rt; answers_high(rt.alloc(), Version::Two, "accepted")?);
+    assert!(rt; answers_high(rt.alloc(), Version::One, "Segment")?);
+    assert!(rt; answers_words(rt.alloc(), 262_144, "accepted")?);
+    assert!(rt; answers_words(rt.alloc(), 262_145, "Text")?);
+    assert!(rt; answers_bytes(rt.alloc(), 67_108_864, "accepted")?);
+    assert!(rt; answers_bytes(rt.alloc(), 67_108_865, "TooLong")?);
     Ok(())
+}
+
+/// The value of the byte at an offset for which a file gets an answer that no header gives.
+fn first_wrong_byte(alloc: Global, file: &[u8], offset: usize) -> Result<Option<u64>, AllocError> {
+    for byte in 0..256 {
+        let file = changed(alloc, file, &[(offset, byte, 1)])?;
+        let given = answer(&read(alloc, &file));
+        if given == "no memory" || given == "Short" || given == "TooLong" {
+            return Ok(Some(byte));
+        }
+    }
+    Ok(None)
 }
 
 #[test]
 fn answers_every_changed_byte(rt: HostRuntime) -> Result<(), Fail> {
-    let alloc = rt.alloc();
-    let file = two_segments(alloc)?;
-    assert_eq!(rt; answer(&read(alloc, &file)), "accepted");
+    let file = two_segments(rt.alloc())?;
+    assert!(rt; answers(rt.alloc(), &file, "accepted"));
     for offset in 0..176 {
-        for byte in 0..256 {
-            let file = changed(alloc, &file, &[(offset, byte, 1)])?;
-            let given = answer(&read(alloc, &file));
-            assert!(rt;
-                given != "no memory" && given != "Short" && given != "TooLong",
-                "byte {byte} at {offset}"
-            );
-        }
+        assert_eq!(rt; first_wrong_byte(rt.alloc(), &file, offset)?, None);
     }
     Ok(())
 }
@@ -418,35 +494,77 @@ fn words_of(alloc: Global, file: &[u8]) -> Result<Vec<u32>, Fail> {
     }
 }
 
+/// Whether a file has this entry, so many segments, and this text and start of the break.
+fn has_image(
+    alloc: Global,
+    file: &[u8],
+    entry: u64,
+    segments: usize,
+    (start, end, break_start): (u64, u64, u64),
+) -> bool {
+    match read(alloc, file) {
+        Ok(image) => {
+            (image.entry, image.segments.items.len()) == (entry, segments)
+                && (image.text_start, image.text_end, image.break_start)
+                    == (start, end, break_start)
+        }
+        Err(_) => false,
+    }
+}
+
 #[test]
 fn gives_the_image(rt: HostRuntime) -> Result<(), Fail> {
     let alloc = rt.alloc();
-    let with_sections = linked(alloc)?;
-    let bare = changed(alloc, &with_sections, &[(60, 0, 2)])?;
-    let rows = [
-        // entry, flags, count of segments, bounds of the text, start of the break
-        (exits(alloc)?, 0x1_0078, 1, (0x1_0078, 0x1_0084), 0x1_0090),
-        (
-            two_segments(alloc)?,
+    assert!(rt;
+        has_image(
+            alloc,
+            &exits(alloc)?,
+            0x1_0078,
+            1,
+            (0x1_0078, 0x1_0084, 0x1_0090)
+        )
+    );
+    assert!(rt;
+        has_image(
+            alloc,
+            &two_segments(alloc)?,
             0x1_00B0,
             2,
-            (0x1_00B0, 0x1_00BC),
-            0x20_3000,
-        ),
-        (with_sections, 0x1_00E8, 1, (0x1_00E8, 0x1_0110), 0x1_1000),
-        (bare, 0x1_00E8, 1, (0x1_0000, 0x1_1000), 0x1_1000),
-    ];
-    for (file, entry, segments, (start, end), break_start) in rows.iter() {
-        let image = read(alloc, file)?;
-        assert_eq!(rt; image.entry, *entry);
-        assert_eq!(rt; image.segments.items.len(), *segments);
-        assert_eq!(rt; image.text_start, *start);
-        assert_eq!(rt; image.text_end, *end);
-        assert_eq!(rt; image.break_start, *break_start);
-    }
-    let flagged = changed(alloc, &two_segments(alloc)?, &[(48, 0x10, 4)])?;
-    let image = read(alloc, &flagged)?;
-    assert_eq!(rt; image.flags, 0x10);
+            (0x1_00B0, 0x1_00BC, 0x20_3000)
+        )
+    );
+    Ok(())
+}
+
+#[test]
+fn sections_bound_the_text(rt: HostRuntime) -> Result<(), Fail> {
+    let linked = linked(rt.alloc())?;
+    assert!(rt;
+        has_image(
+            rt.alloc(),
+            &linked,
+            0x1_00E8,
+            1,
+            (0x1_00E8, 0x1_0110, 0x1_1000)
+        )
+    );
+    let bare = changed(rt.alloc(), &linked, &[(60, 0, 2)])?;
+    assert!(rt;
+        has_image(
+            rt.alloc(),
+            &bare,
+            0x1_00E8,
+            1,
+            (0x1_0000, 0x1_1000, 0x1_1000)
+        )
+    );
+    Ok(())
+}
+
+#[test]
+fn gives_flags_and_segments(rt: HostRuntime) -> Result<(), Fail> {
+    let flagged = changed(rt.alloc(), &two_segments(rt.alloc())?, &[(48, 0x10, 4)])?;
+    let image = read(rt.alloc(), &flagged)?;
     let data = Segment {
         address: 0x20_0000,
         size: 0x3000,
@@ -454,14 +572,21 @@ fn gives_the_image(rt: HostRuntime) -> Result<(), Fail> {
         offset: 188,
         length: 16,
     };
-    assert_eq!(rt; image.segments.items.last().copied(), Some(data));
-    let words = words_of(alloc, &exits(alloc)?)?;
     assert_eq!(rt;
-        words.as_slice(),
-        [0x0070_0513, 0x05D0_0893, 0x0000_0073].as_slice()
+        (image.flags, image.segments.items.last().copied()),
+        (0x10, Some(data))
     );
-    let words = words_of(alloc, &linked(alloc)?)?;
-    assert_eq!(rt; words.len(), 10);
-    assert_eq!(rt; words.first().copied(), Some(0x0000_0073));
+    Ok(())
+}
+
+#[test]
+fn gives_the_words(rt: HostRuntime) -> Result<(), Fail> {
+    let words = words_of(rt.alloc(), &exits(rt.alloc())?)?;
+    assert!(rt; words.as_slice() == [0x0070_0513, 0x05D0_0893, 0x0000_0073].as_slice());
+    let words = words_of(rt.alloc(), &linked(rt.alloc())?)?;
+    assert_eq!(rt;
+        (words.len(), words.first().copied()),
+        (10, Some(0x0000_0073))
+    );
     Ok(())
 }

@@ -108,9 +108,35 @@ fn written_from<O: Sink>(alloc: Global, bytes: &[u8], sink: &mut O) -> Result<Wr
     ))
 }
 
+/// Writes the file of the original.
+fn original_written<O: Sink>(
+    alloc: Global,
+    version: Version,
+    sink: &mut O,
+) -> Result<Written, Fail> {
+    written(alloc, &ORIGINAL, version, sink)
+}
+
+/// Writes it through a buffer.
+fn original_written_from<O: Sink>(alloc: Global, sink: &mut O) -> Result<Written, Fail> {
+    written_from(alloc, &ORIGINAL, sink)
+}
+
 /// The length of the file of these bytes.
 fn length_for(alloc: Global, bytes: &[u8]) -> Result<u64, Fail> {
     Ok(length(&parts_of(alloc, bytes, Version::Two)?))
+}
+
+fn has_front(file: &[u8]) -> bool {
+    file.starts_with(&FRONT)
+}
+
+fn has_record(file: &[u8]) -> bool {
+    file.get(568..608) == Some(&RECORD[..])
+}
+
+fn has_text(file: &[u8]) -> bool {
+    file.get(4216..4228) == Some(&PATCHED[..])
 }
 
 /// Whether each byte from one place up to another is zero.
@@ -125,17 +151,32 @@ fn is_zero(bytes: &[u8], from: usize, to: usize) -> bool {
 #[test]
 fn writes_each_part(rt: HostRuntime) -> Result<(), Fail> {
     let mut sink = BufSink::new(rt.alloc(), 16_668)?;
-    let done = written(rt.alloc(), &ORIGINAL, Version::Two, &mut sink)?;
-    assert_eq!(rt; done, Written::Done(16_668));
-    assert_eq!(rt; length_for(rt.alloc(), &ORIGINAL)?, 16_668);
+    let done = original_written(rt.alloc(), Version::Two, &mut sink)?;
+    assert_eq!(rt; (done, sink.bytes().len()), (Written::Done(16_668), 16_668));
     let file = sink.bytes();
-    assert_eq!(rt; file.len(), 16_668);
-    assert!(rt; file.starts_with(&FRONT));
-    assert_eq!(rt; file.get(568..608), Some(&RECORD[..]));
-    assert!(rt; is_zero(file, 608, 4216));
-    assert_eq!(rt; file.get(4216..4228), Some(&PATCHED[..]));
-    assert!(rt; is_zero(file, 4228, 16_668));
+    assert!(rt; has_front(file) && has_record(file) && has_text(file));
+    assert!(rt; is_zero(file, 608, 4216) && is_zero(file, 4228, 16_668));
     Ok(())
+}
+
+#[test]
+fn tells_the_length(rt: HostRuntime) -> Result<(), Fail> {
+    assert_eq!(rt; length_for(rt.alloc(), &ORIGINAL)?, 16_668);
+    Ok(())
+}
+
+/// A place of two files, with the byte that each has there.
+type Place = (usize, u8, u8);
+
+/// The places where two files differ.
+fn differing(alloc: Global, one: &[u8], two: &[u8]) -> Result<Vec<Place>, NoMemory> {
+    let mut places = Vec::new(alloc);
+    for (place, (old, new)) in one.iter().zip(two).enumerate() {
+        if old != new {
+            places.push((place, *old, *new))?;
+        }
+    }
+    Ok(places)
 }
 
 /// The files of the two versions differ in the size of the region table and in the number of the
@@ -144,34 +185,37 @@ fn writes_each_part(rt: HostRuntime) -> Result<(), Fail> {
 fn versions_differ(rt: HostRuntime) -> Result<(), Fail> {
     let mut one = BufSink::new(rt.alloc(), 16_668)?;
     let mut two = BufSink::new(rt.alloc(), 16_668)?;
-    written(rt.alloc(), &ORIGINAL, Version::One, &mut one)?;
-    written(rt.alloc(), &ORIGINAL, Version::Two, &mut two)?;
-    let mut places = Vec::new(rt.alloc());
-    for (place, (old, new)) in one.bytes().iter().zip(two.bytes()).enumerate() {
-        if old != new {
-            places.push((place, *old, *new))?;
-        }
-    }
-    let expected = [(442, 0x40, 0), (443, 0, 1), (576, 1, 2)];
-    assert_eq!(rt; places.as_slice(), expected.as_slice());
+    original_written(rt.alloc(), Version::One, &mut one)?;
+    original_written(rt.alloc(), Version::Two, &mut two)?;
+    let places = differing(rt.alloc(), one.bytes(), two.bytes())?;
+    assert!(rt; places.as_slice() == [(442, 0x40, 0), (443, 0, 1), (576, 1, 2)].as_slice());
     Ok(())
 }
 
-/// A sink whose room ends takes the front of the file, and so does one whose second put fails.
+/// A sink whose room ends takes the front of the file.
 #[test]
-fn stops_where_the_sink_fails(rt: HostRuntime) -> Result<(), Fail> {
+fn stops_where_the_sink_is_full(rt: HostRuntime) -> Result<(), Fail> {
     let alloc = rt.alloc();
     let mut small = MemSink::new(alloc, 64, Vec::new(alloc), Vec::new(alloc))?;
-    let stopped = written(alloc, &ORIGINAL, Version::Two, &mut small)?;
+    let stopped = original_written(alloc, Version::Two, &mut small)?;
     assert_eq!(rt; stopped, Written::SinkFault);
-    assert_eq!(rt; small.bytes(), &FRONT[..64]);
-    let fails = Vec::from_array(alloc, [2])?;
-    let most = Vec::from_array(alloc, [1000])?;
+    assert!(rt; small.bytes() == &FRONT[..64]);
+    Ok(())
+}
+
+/// A sink whose second put fails has what the first one took.
+#[test]
+fn stops_where_a_put_fails(rt: HostRuntime) -> Result<(), Fail> {
+    let alloc = rt.alloc();
+    let fails = vec![in alloc; 2; 1]?;
+    let most = vec![in alloc; 1000; 1]?;
     let mut failing = MemSink::new(alloc, 20_000, fails, most)?;
-    let stopped = written_from(alloc, &ORIGINAL, &mut failing)?;
-    assert_eq!(rt; stopped, Written::SinkFault);
-    assert_eq!(rt; failing.bytes().len(), 1000);
-    assert_eq!(rt; failing.bytes().get(568..608), Some(&RECORD[..]));
+    let stopped = original_written_from(alloc, &mut failing)?;
+    assert_eq!(rt;
+        (stopped, failing.bytes().len()),
+        (Written::SinkFault, 1000)
+    );
+    assert!(rt; has_record(failing.bytes()));
     Ok(())
 }
 
@@ -181,48 +225,58 @@ fn goes_on_where_a_put_falls_short(rt: HostRuntime) -> Result<(), Fail> {
     let alloc = rt.alloc();
     let most = vec![in alloc; 1; 16_668]?;
     let mut slow = MemSink::new(alloc, 16_668, Vec::new(alloc), most)?;
-    let mut quick = BufSink::new(alloc, 16_668)?;
-    let done = written_from(alloc, &ORIGINAL, &mut slow)?;
+    let done = original_written_from(alloc, &mut slow)?;
     assert_eq!(rt; done, Written::Done(16_668));
-    written(alloc, &ORIGINAL, Version::Two, &mut quick)?;
-    assert_eq!(rt; slow.bytes(), quick.bytes());
+    let mut quick = BufSink::new(alloc, 16_668)?;
+    original_written(alloc, Version::Two, &mut quick)?;
+    assert!(rt; slow.bytes() == quick.bytes());
     Ok(())
 }
 
-/// An original with the text of [`ORIGINAL`] and so many bytes behind it, each of them 7.
-fn long_original(alloc: Global, count: u32) -> Result<Vec<u8>, Fail> {
-    let mut file = Vec::new(alloc);
-    file.extend_from_slice(&ORIGINAL)?;
-    for place in [96usize, 104] {
-        for (i, byte) in (12 + u64::from(count)).to_le_bytes().iter().enumerate() {
+/// Makes 12 and so many the two sizes of the original's segment.
+fn lengthen(file: &mut Vec<u8>, count: u32) {
+    for (i, byte) in (12 + u64::from(count)).to_le_bytes().iter().enumerate() {
+        for place in [96, 104] {
             if let Some(old) = file.get_mut(place + i) {
                 *old = *byte;
             }
         }
     }
-    for _ in 0..count {
-        file.push(7)?;
-    }
+}
+
+/// An original with the text of [`ORIGINAL`] and so many bytes behind it, each of them 7.
+fn long_original(alloc: Global, count: u32) -> Result<Vec<u8>, Fail> {
+    let mut file = ORIGINAL.to_vec(alloc)?;
+    lengthen(&mut file, count);
+    file.resize(132 + count as usize, 7)?;
     Ok(file)
 }
 
 /// A segment that is longer than the buffer keeps its bytes, but for the text's.
 #[test]
 fn writes_more_than_a_buffer(rt: HostRuntime) -> Result<(), Fail> {
-    let alloc = rt.alloc();
-    let original = long_original(alloc, 200_000)?;
-    let end = length_for(alloc, &original)?;
-    let mut sink = BufSink::new(alloc, 16_000_000)?;
-    let done = written_from(alloc, &original, &mut sink)?;
-    assert_eq!(rt; done, Written::Done(end));
-    assert_eq!(rt; sink.bytes().len() as u64, end);
-    assert_eq!(rt; sink.bytes().get(4216..4220), original.get(120..124));
+    let original = long_original(rt.alloc(), 200_000)?;
+    let end = length_for(rt.alloc(), &original)?;
+    let mut sink = BufSink::new(rt.alloc(), 16_000_000)?;
+    let done = written_from(rt.alloc(), &original, &mut sink)?;
     assert_eq!(rt;
-        sink.bytes().get(204_216..204_228),
-        original.get(200_120..200_132)
+        (done, sink.bytes().len() as u64),
+        (Written::Done(end), end)
     );
-    let mut again = BufSink::new(alloc, 16_000_000)?;
-    written(alloc, &original, Version::Two, &mut again)?;
-    assert_eq!(rt; again.bytes(), sink.bytes());
+    let file = sink.bytes();
+    assert!(rt; file.get(4216..4220) == original.get(120..124));
+    assert!(rt; file.get(204_216..204_228) == original.get(200_120..200_132));
+    Ok(())
+}
+
+/// It is the same file that is written with no buffer.
+#[test]
+fn a_buffer_changes_nothing(rt: HostRuntime) -> Result<(), Fail> {
+    let original = long_original(rt.alloc(), 200_000)?;
+    let mut sink = BufSink::new(rt.alloc(), 16_000_000)?;
+    written_from(rt.alloc(), &original, &mut sink)?;
+    let mut again = BufSink::new(rt.alloc(), 16_000_000)?;
+    written(rt.alloc(), &original, Version::Two, &mut again)?;
+    assert!(rt; again.bytes() == sink.bytes());
     Ok(())
 }

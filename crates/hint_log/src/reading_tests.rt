@@ -55,11 +55,11 @@ fn is_queue(mem: &Mem) -> bool
 fn a_new_memory_has_an_empty_log_and_box(rt: HostRuntime) -> Result<(), Fail> {
     let mem = empty(rt.alloc())?;
     assert!(rt; is_queue(&mem));
-    assert_eq!(rt; len(&mem), 0);
-    assert_eq!(rt; entry(&mem, 0), None);
-    assert_eq!(rt; boxed(&mem, x(0)), 0);
-    assert_eq!(rt; boxed(&mem, x(31)), 0);
-    assert_eq!(rt; boxed_site(&mem), 0);
+    assert!(rt; (len(&mem), entry(&mem, 0)) == (0, None));
+    assert_eq!(rt;
+        (boxed_site(&mem), boxed(&mem, x(0)), boxed(&mem, x(31))),
+        (0, 0, 0)
+    );
     Ok(())
 }
 
@@ -78,10 +78,8 @@ fn pairs_come_from_the_oldest(rt: HostRuntime) -> Result<(), Fail> {
     ];
     let mem = with_link(rt.alloc(), &numbers)?;
     assert!(rt; is_queue(&mem));
-    assert_eq!(rt; len(&mem), 2);
-    assert_eq!(rt; entry(&mem, 0), Some((20, 21)));
-    assert_eq!(rt; entry(&mem, 1), Some((30, 31)));
-    assert_eq!(rt; entry(&mem, 2), None);
+    assert!(rt; (len(&mem), entry(&mem, 2)) == (2, None));
+    assert!(rt; (entry(&mem, 0), entry(&mem, 1)) == (Some((20, 21)), Some((30, 31))));
     Ok(())
 }
 
@@ -100,11 +98,9 @@ fn the_first_place_follows_the_last(rt: HostRuntime) -> Result<(), Fail> {
     ];
     let mem = with_link(rt.alloc(), &numbers)?;
     assert!(rt; is_queue(&mem));
-    assert_eq!(rt; len(&mem), 64);
-    assert_eq!(rt; entry(&mem, 0), Some((10, 11)));
-    assert_eq!(rt; entry(&mem, 1), Some((20, 21)));
-    assert_eq!(rt; entry(&mem, 63), Some((30, 31)));
-    assert_eq!(rt; entry(&mem, 64), None);
+    assert!(rt; (len(&mem), entry(&mem, 64)) == (64, None));
+    assert!(rt; (entry(&mem, 0), entry(&mem, 1)) == (Some((10, 11)), Some((20, 21))));
+    assert!(rt; entry(&mem, 63) == Some((30, 31)));
     Ok(())
 }
 
@@ -117,10 +113,10 @@ fn the_box_has_site_and_registers(rt: HostRuntime) -> Result<(), Fail> {
         (0x4200_10F8, 31),
     ];
     let mem = with_link(rt.alloc(), &numbers)?;
-    assert_eq!(rt; boxed_site(&mem), 0x1_0000);
-    assert_eq!(rt; boxed(&mem, x(0)), 0);
-    assert_eq!(rt; boxed(&mem, x(1)), u64::MAX);
-    assert_eq!(rt; boxed(&mem, x(10)), 10);
-    assert_eq!(rt; boxed(&mem, x(31)), 31);
+    assert_eq!(rt; (boxed_site(&mem), boxed(&mem, x(0))), (0x1_0000, 0));
+    assert_eq!(rt;
+        (boxed(&mem, x(1)), boxed(&mem, x(10)), boxed(&mem, x(31))),
+        (u64::MAX, 10, 31)
+    );
     Ok(())
 }

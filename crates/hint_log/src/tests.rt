@@ -78,9 +78,24 @@ const BOX_LOAD: [u32; 39] = [
     0x200F_8067,
 ];
 
-/// The words of closed code.
-fn words(buf: CodeBuf) -> Result<Vec<u32>, Fail> {
-    Ok(buf.close().map_err(|_| "the code closes")?)
+/// Whether code closes to these words.
+fn is_code(buf: CodeBuf, wanted: &[u32]) -> bool {
+    match buf.close() {
+        Ok(words) => words.as_slice() == wanted,
+        Err(_) => false,
+    }
+}
+
+fn append(alloc: Global) -> Result<CodeBuf, NoMemory> {
+    let mut buf = CodeBuf::new(alloc);
+    emit_append(&mut buf)?;
+    Ok(buf)
+}
+
+fn box_load(alloc: Global) -> Result<CodeBuf, NoMemory> {
+    let mut buf = CodeBuf::new(alloc);
+    emit_box_load(&mut buf)?;
+    Ok(buf)
 }
 
 /// The stub, in its two parts.
@@ -93,32 +108,48 @@ fn stub(alloc: Global) -> Result<CodeBuf, NoMemory> {
 
 #[test]
 fn appends(rt: HostRuntime) -> Result<(), Fail> {
-    let mut buf = CodeBuf::new(rt.alloc());
-    emit_append(&mut buf)?;
-    assert_eq!(rt; words(buf)?.as_slice(), APPEND.as_slice());
+    assert!(rt; is_code(append(rt.alloc())?, &APPEND));
     Ok(())
 }
 
 #[test]
 fn loads_the_box(rt: HostRuntime) -> Result<(), Fail> {
-    let mut buf = CodeBuf::new(rt.alloc());
-    emit_box_load(&mut buf)?;
-    assert_eq!(rt; words(buf)?.as_slice(), BOX_LOAD.as_slice());
+    assert!(rt; is_code(box_load(rt.alloc())?, &BOX_LOAD));
     Ok(())
 }
 
-/// The check is the stub up to its word 31, and the saving is the rest.
+/// Places of the stub, and the words there. The check is the stub up to its word 31, and the saving is
+/// the rest.
+const PLACES: [(usize, u32); 8] = [
+    (0, 0xFFF0_3C23),
+    (9, 0x05FE_8463),
+    (25, 0x0000_600B),
+    (30, 0x000F_3423),
+    (31, 0x4200_1FB7),
+    (36, 0x001F_B423),
+    (65, 0x0FEF_B823),
+    (70, 0xF49F_F06F),
+];
+
+/// Whether code closes to 71 words, of which these are at their places.
+fn is_stub(buf: CodeBuf) -> bool {
+    match buf.close() {
+        Ok(words) => words.len() == 71 && has_places(words.as_slice()),
+        Err(_) => false,
+    }
+}
+
+fn has_places(words: &[u32]) -> bool {
+    for (place, word) in &PLACES {
+        if words.get(*place) != Some(word) {
+            return false;
+        }
+    }
+    true
+}
+
 #[test]
 fn checks_and_saves(rt: HostRuntime) -> Result<(), Fail> {
-    let words = words(stub(rt.alloc())?)?;
-    assert_eq!(rt; words.len(), 71);
-    assert_eq!(rt; words.first(), Some(&0xFFF0_3C23));
-    assert_eq!(rt; words.get(9), Some(&0x05FE_8463));
-    assert_eq!(rt; words.get(25), Some(&0x0000_600B));
-    assert_eq!(rt; words.get(30), Some(&0x000F_3423));
-    assert_eq!(rt; words.get(31), Some(&0x4200_1FB7));
-    assert_eq!(rt; words.get(36), Some(&0x001F_B423));
-    assert_eq!(rt; words.get(65), Some(&0x0FEF_B823));
-    assert_eq!(rt; words.last(), Some(&0xF49F_F06F));
+    assert!(rt; is_stub(stub(rt.alloc())?));
     Ok(())
 }
