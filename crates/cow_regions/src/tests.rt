@@ -152,24 +152,34 @@ const TAILS: [u32; 61] = [
     0x000F_0067,
 ];
 
-/// The words of closed code.
-fn words(buf: CodeBuf) -> Result<Vec<u32>, Fail> {
-    Ok(buf.close().map_err(|_| "the code closes")?)
+/// Whether code closes to these words.
+fn is_code(buf: CodeBuf, wanted: &[u32]) -> bool {
+    match buf.close() {
+        Ok(words) => words.as_slice() == wanted,
+        Err(_) => false,
+    }
 }
 
-/// The code from LOAD1 to STAIL.
-fn access(alloc: Global, layout: &Layout) -> Result<CodeBuf, NoMemory> {
+fn clear(alloc: Global) -> Result<CodeBuf, NoMemory> {
     let mut buf = CodeBuf::new(alloc);
-    emit_access(&mut buf, layout)?;
+    emit_clear(&mut buf)?;
     Ok(buf)
 }
 
 #[test]
 fn clears(rt: HostRuntime) -> Result<(), Fail> {
-    let mut buf = CodeBuf::new(rt.alloc());
-    emit_clear(&mut buf)?;
-    assert_eq!(rt; words(buf)?.as_slice(), CLEAR.as_slice());
+    assert!(rt; is_code(clear(rt.alloc())?, &CLEAR));
     Ok(())
+}
+
+/// The words of the code from LOAD1 to STAIL, or none where it doesn't close.
+fn access(alloc: Global, layout: &Layout) -> Result<Vec<u32>, NoMemory> {
+    let mut buf = CodeBuf::new(alloc);
+    emit_access(&mut buf, layout)?;
+    match buf.close() {
+        Ok(words) => Ok(words),
+        Err(_) => Ok(Vec::new(alloc)),
+    }
 }
 
 #[test]
@@ -180,10 +190,17 @@ fn finds_places_in_a_small_range(rt: HostRuntime) -> Result<(), Fail> {
         regions: 4096,
         version: Version::One,
     };
-    let words = words(access(rt.alloc(), &layout)?)?;
+    let words = access(rt.alloc(), &layout)?;
     assert_eq!(rt; words.len(), 205);
-    assert_eq!(rt; words.get(112..128), Some(STORE8.as_slice()));
+    assert!(rt; words.get(112..128) == Some(&STORE8[..]));
     Ok(())
+}
+
+/// Whether LOAD8, JUMP, LTAIL and STAIL are the words above.
+fn has_large_range(words: &[u32]) -> bool {
+    words.get(48..64) == Some(&LOAD8[..])
+        && words.get(128..144) == Some(&JUMP[..])
+        && words.get(144..) == Some(&TAILS[..])
 }
 
 #[test]
@@ -194,10 +211,8 @@ fn finds_places_in_a_large_range(rt: HostRuntime) -> Result<(), Fail> {
         regions: 4095,
         version: Version::Two,
     };
-    let words = words(access(rt.alloc(), &layout)?)?;
-    assert_eq!(rt; words.get(48..64), Some(LOAD8.as_slice()));
-    assert_eq!(rt; words.get(128..144), Some(JUMP.as_slice()));
-    assert_eq!(rt; words.get(144..), Some(TAILS.as_slice()));
+    let words = access(rt.alloc(), &layout)?;
+    assert!(rt; has_large_range(&words));
     Ok(())
 }
 
@@ -236,26 +251,24 @@ fn filled(mem: &mut Mem, address: u64, bytes: &[u8]) -> Fitted
     fill_copies(mem, address, bytes)
 }
 
-/// How many regions have copies, and the slots of two of them.
-fn slots(mem: &Mem) -> (u32, Option<u32>, Option<u32>) {
-    (used(mem), slot_of(mem, 0x2010), slot_of(mem, 0x2011))
+/// Whether so many regions have copies, of which two are in these slots.
+fn has_slots(mem: &Mem, count: u32, first: Option<u32>, second: Option<u32>) -> bool {
+    used(mem) == count && slot_of(mem, 0x2010) == first && slot_of(mem, 0x2011) == second
 }
 
-/// The bytes before, in and behind the filled ones, and one of the text.
-fn bytes(data: &impl Bytes) -> [Option<u8>; 6] {
-    [
-        data.byte(0x20_0FFF),
-        data.byte(0x20_1000),
-        data.byte(0x20_1100),
-        data.byte(0x20_1101),
-        data.byte(0x20_1103),
-        data.byte(0x1_0000),
-    ]
+/// The bytes before, in and behind the filled ones.
+fn has_bytes(data: &impl Bytes, wanted: [u8; 5]) -> bool {
+    data.byte(0x20_0FFF) == Some(wanted[0])
+        && data.byte(0x20_1000) == Some(wanted[1])
+        && data.byte(0x20_1100) == Some(wanted[2])
+        && data.byte(0x20_1101) == Some(wanted[3])
+        && data.byte(0x20_1103) == Some(wanted[4])
+        && data.byte(0x1_0000) == None
 }
 
-/// The same as a shadow sees them.
-fn seen(mem: &Mem) -> [Option<u8>; 6] {
-    bytes(&Shadowed::new(mem))
+/// Whether a shadow sees these bytes.
+fn sees(mem: &Mem, wanted: [u8; 5]) -> bool {
+    has_bytes(&Shadowed::new(mem), wanted)
 }
 
 #[test]
@@ -263,11 +276,10 @@ fn too_many_regions_change_nothing(rt: HostRuntime) {
     let Ok(mut mem) = made(rt.alloc(), 1) else {
         panic!(rt; "no memory");
     };
-    let own = [Some(5), Some(5), Some(5), Some(5), Some(0), None];
-    assert_eq!(rt; slots(&mem), (0, None, None));
+    assert!(rt; has_slots(&mem, 0, None, None));
     assert_eq!(rt; filled(&mut mem, 0x20_1000, &[7; 257]), Fitted::Full);
-    assert_eq!(rt; slots(&mem), (0, None, None));
-    assert_eq!(rt; seen(&mem), own);
+    assert!(rt; has_slots(&mem, 0, None, None));
+    assert!(rt; sees(&mem, [5, 5, 5, 5, 0]));
 }
 
 #[test]
@@ -275,18 +287,11 @@ fn copies_hold_what_is_filled(rt: HostRuntime) {
     let Ok(mut mem) = made(rt.alloc(), 2) else {
         panic!(rt; "no memory");
     };
-    let own = [Some(5), Some(5), Some(5), Some(5), Some(0), None];
     assert_eq!(rt; filled(&mut mem, 0x20_1000, &[7; 257]), Fitted::Done);
-    assert_eq!(rt; slots(&mem), (2, Some(1), Some(2)));
-    assert_eq!(rt;
-        seen(&mem),
-        [Some(5), Some(7), Some(7), Some(5), Some(0), None]
-    );
+    assert!(rt; has_slots(&mem, 2, Some(1), Some(2)));
+    assert!(rt; sees(&mem, [5, 7, 7, 5, 0]));
     assert_eq!(rt; filled(&mut mem, 0x20_10FF, &[8, 9, 10]), Fitted::Done);
-    assert_eq!(rt; slots(&mem), (2, Some(1), Some(2)));
-    assert_eq!(rt;
-        seen(&mem),
-        [Some(5), Some(7), Some(9), Some(10), Some(0), None]
-    );
-    assert_eq!(rt; bytes(&mem), own);
+    assert!(rt; has_slots(&mem, 2, Some(1), Some(2)));
+    assert!(rt; sees(&mem, [5, 7, 9, 10, 0]));
+    assert!(rt; has_bytes(&mem, [5, 5, 5, 5, 0]));
 }
