@@ -8,4 +8,5 @@ pub mod Nexts
 pub mod Meeting
 pub mod Progress
 pub mod Noting
+pub mod KeyedNoting
 pub mod Gathering

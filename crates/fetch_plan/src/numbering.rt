@@ -9,6 +9,7 @@ ghost use Rattle.fetch_plan.specs.Numbering.{Has};
 
 use cache_queue::block_numbers;
 use indexmap::IndexSet;
+use small_spots::{Names, SmallSpot};
 use spec_base::{BlockSpot, NoMemory, Note, ReadSpot};
 use std::alloc::Global;
 use std::marker::Model;
@@ -26,10 +27,12 @@ pub enum NeedsFault {
 const MOST: usize = 4_000_000;
 
 /// The needs of lines that come one after the other: equal blocks have equal numbers, from 0 by first
-/// appearance. Past 4,000,000 needs no number is kept.
+/// appearance. Past 4,000,000 needs no number is kept. Blocks are looked up by small keys, and each
+/// name is held once.
 #[derive(Drop)]
 pub struct Numbering {
-    seen: IndexSet<BlockSpot>,
+    names: Names,
+    seen: IndexSet<SmallSpot>,
     numbers: Vec<u64>,
     full: bool,
 }
@@ -52,6 +55,7 @@ impl Numbering {
         ensures { Has result [] }
     {
         Numbering {
+            names: Names::new(alloc),
             seen: IndexSet::new(alloc),
             numbers: Vec::new(alloc),
             full: false,
@@ -69,7 +73,8 @@ impl Numbering {
             self.full = true;
             return Ok(());
         }
-        let Ok((number, _)) = self.seen.insert_full(spot) else {
+        let key = self.names.key(&spot)?;
+        let Ok((number, _)) = self.seen.insert_full(key) else {
             return Err(NoMemory);
         };
         self.numbers.push(number as u64)?;

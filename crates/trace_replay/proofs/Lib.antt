@@ -1,5 +1,7 @@
 pub mod Fits
 pub mod Entries
+pub mod Keyed
+pub mod Named
 pub mod Tables
 pub mod Finishing
 pub mod BoundLaws

@@ -13,7 +13,7 @@ use Rattle.cache_queue.proofs.Entries.{keys}
 use Rattle.cache_queue.proofs.Looks.{is_equal_to}
 use Rattle.trace_replay.specs.Lists.{BoundedCache, after_finish}
 use Rattle.trace_replay.specs.Fits.{IsFit, IsFitted}
-use Rattle.trace_replay.specs.Fields.{lists_with}
+use Rattle.trace_replay.specs.Keyed.{lists_with}
 use Rattle.trace_replay.proofs.Fits.{kept-fit, used-fit, awaited-fit, awaited-landed-fit, hint-fit, fetched-fit, queued-landed, landed-fit}
 use Rattle.trace_replay.proofs.Entries.{keys-promoted, promoted-absent, keys-removed, keys-put, keys-behind, keys-first, keys-rest}
 

@@ -1,6 +1,7 @@
 pub mod Replays
 pub mod Lists
 pub mod Fits
+pub mod Keyed
 pub mod Fields
 pub mod Courses
 pub mod Totals

@@ -1,22 +1,21 @@
 //! The lists of a cache whose blocks have no bytes.
 
-ghost use Rattle.std.specs.Prelude.{◌≡◌, ◌≤◌, ◌||◌, length, nat_le, IfOk, OnOk, is_some};
-ghost use Rattle.spec_base.specs.declared.spot.BlockSpot.{BlockSpot as Spot};
-ghost use Rattle.program_model.specs.Cache.{holds, hinted, is_demanded, is_idle_hint, in_flight};
+ghost use Rattle.std.specs.Prelude.{◌≡◌, ◌≤◌, IfOk, OnOk, is_some};
+ghost use Rattle.program_model.specs.Cache.{holds, hinted, in_flight};
 ghost use Rattle.trace_replay.specs.Lists.{no_blocks, after_need, after_finish};
 
-use lru::LruCache;
+use crate::keyed_lists::KeyedLists;
+use small_spots::Names;
 use spec_base::{BlockSpot, NoMemory};
 use std::alloc::Global;
 use std::marker::Model;
-use std::num::NonZeroUsize;
 
-/// Cached blocks, the most recently used first, and queued blocks, the oldest first. Each is in at
-/// most one of the two. A need, a hint and a finish take the same time whatever their lengths.
+/// Cached blocks, the most recently used first, and queued blocks, the oldest first. They are kept by
+/// small keys: a name is held once.
 #[derive(Drop)]
 pub(crate) struct BlockLists {
-    cached: LruCache<BlockSpot, ()>,
-    queue: LruCache<BlockSpot, ()>,
+    names: Names,
+    keyed: KeyedLists,
 }
 
 impl Model for BlockLists {
@@ -38,11 +37,9 @@ impl BlockLists {
         requires depth { 1 ≤ depth }
         ensures { IfOk result (λ lists. lists ≡ no_blocks blocks depth) }
     {
-        let blocks = NonZeroUsize::new(blocks as usize).unwrap();
-        let depth = NonZeroUsize::new(depth as usize).unwrap();
         Ok(BlockLists {
-            cached: LruCache::sparse(alloc, blocks)?,
-            queue: LruCache::sparse(alloc, depth)?,
+            names: Names::new(alloc),
+            keyed: KeyedLists::new(alloc, blocks, depth)?,
         })
     }
 
@@ -52,50 +49,16 @@ impl BlockLists {
         ensures cached { IfOk result (λ cached. cached ≡ holds self.old.cache.cached spot.now) }
         ensures lists { IfOk result (λ cached. self.new ≡ record self.old { cache = after_need cached self.old.blocks self.old.cache spot.now }) }
     {
-        if self.cached.promote(spot) {
-            return Ok(true);
-        }
-        let _ = self.queue.pop(spot);
-        self.cached.put(*spot, ())?;
-        Ok(false)
+        let key = self.names.key(spot)?;
+        self.keyed.need(key)
     }
 
     /// Queues a block, unless it is cached or queued, or the queue is full.
     pub fn hint(&mut self, spot: &BlockSpot) -> Result<(), NoMemory>
         ensures { OnOk result (self.new ≡ record self.old { cache = hinted self.old.depth self.old.cache spot.now }) }
     {
-        if self.is_idle(spot) {
-            return Ok(());
-        }
-        self.queue.put(*spot, ())?;
-        self.queue.demote(spot);
-        Ok(())
-    }
-
-    fn is_cached(&self, spot: &BlockSpot) -> bool
-        ensures { result ≡ holds self.now.cache.cached spot.now }
-    {
-        self.cached.contains(spot)
-    }
-
-    fn is_queued(&self, spot: &BlockSpot) -> bool
-        ensures { result ≡ holds self.now.cache.queue spot.now }
-    {
-        self.queue.contains(spot)
-    }
-
-    // Whether the queue is full. No block is demanded between two calls.
-    fn is_full(&self) -> bool
-        ensures { (spot : Spot) → result ≡ (is_demanded self.now.cache.demanded spot || nat_le self.now.depth (length self.now.cache.queue)) }
-    {
-        self.queue.cap().get() <= self.queue.len()
-    }
-
-    // Whether a hint of the block has no use.
-    fn is_idle(&self, spot: &BlockSpot) -> bool
-        ensures { result ≡ is_idle_hint self.now.depth self.now.cache spot.now }
-    {
-        self.is_cached(spot) || self.is_queued(spot) || self.is_full()
+        let key = self.names.key(spot)?;
+        self.keyed.hint(key)
     }
 
     /// Caches the oldest queued block; false where none is queued. After `NoMemory` the lists aren't
@@ -104,12 +67,6 @@ impl BlockLists {
         ensures any { IfOk result (λ any. any ≡ is_some (in_flight self.old.cache)) }
         ensures lists { OnOk result (self.new ≡ record self.old { cache = after_finish (in_flight self.old.cache) self.old.blocks self.old.cache }) }
     {
-        match self.queue.pop_mru() {
-            Some((spot, ())) => {
-                self.cached.put(spot, ())?;
-                Ok(true)
-            }
-            None => Ok(false),
-        }
+        self.keyed.finish()
     }
 }

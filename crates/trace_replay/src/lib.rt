@@ -3,6 +3,7 @@
 
 mod block_lists;
 mod course;
+mod keyed_lists;
 mod replay;
 mod totals;
 mod traces;

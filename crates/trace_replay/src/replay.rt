@@ -15,8 +15,8 @@ use trace_text::TraceLine;
 /// A cache to which the reads and hints of a trace are fed. A contract sees its settings, its lists
 /// and totals, how many lines it was fed, and whether there was no memory to follow one of them.
 ///
-/// It holds the name and number of each block that is cached or queued, and no block's bytes: less
-/// than 400 bytes for each.
+/// It holds a small key of each block that is cached or queued, each name once, and no block's bytes:
+/// less than 200 bytes for each block, and less than 1,000 for each name.
 #[derive(Drop)]
 pub struct Replay {
     course: Course,

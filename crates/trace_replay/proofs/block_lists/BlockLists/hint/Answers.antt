@@ -1,22 +1,28 @@
-use Rattle.std.proofs.Common.{◌≡◌, sym, ◌∙◌, ap}
-use Rattle.program_model.specs.Cache.{hinted, hint_if, is_idle_hint}
+use Rattle.std.proofs.Common.{◌≡◌, ◌∙◌, ap}
+use Rattle.std.proofs.lemmas.Result.{on_ok_weaker}
+use Rattle.program_model.specs.Cache.{hinted}
 use Rattle.trace_replay.specs.Lists.{BoundedCache}
-use Rattle.trace_replay.specs.Fields.{lists_of}
-use Rattle.trace_replay.proofs.Tables.{lists-hinted, IsFitted-hinted}
+use Rattle.trace_replay.specs.Keyed.{lists_by}
+use Rattle.trace_replay.proofs.Named.{lists-stay, AreKeyed-stay}
 use Rattle.trace_replay.proofs.block_lists.BlockLists.hint.Goals as goal
 
-pub returns-then-is_idle : goal.returns-then-is_idle
-returns-then-is_idle c =
-    let b : BoundedCache = c.args.self.now in
-    ap (λ h. record b { cache = hint_if h b.cache c.args.spot.now }) (sym c.if-is_idle.true ∙ c.is_idle.ensures)
+pub invariant_of-self : goal.invariant_of-self
+invariant_of-self c = AreKeyed-stay c.self.inside.names c.key.new.self c.key.ensures.stays c.self.inside.keyed c.self.invariant c.key.ensures.apart
 
 pub invariant_of-self-2 : goal.invariant_of-self-2
 invariant_of-self-2 c =
-    let idle = c.is_idle.ensures ∙ ap (λ (b : BoundedCache). is_idle_hint b.depth b.cache c.args.spot.now) (sym c.self.view_is) in
-    IsFitted-hinted c.self.inside.cached c.self.inside.queue c.args.spot.now c.self.invariant c.is_idle.result idle c.if-is_idle.false c.put.new.self c.demote.new.self tt c.in_ok-put.ensures.entries c.demote.ensures.entries
+    let keyed = AreKeyed-stay c.self.inside.names c.key.new.self c.key.ensures.stays c.self.inside.keyed c.self.invariant c.key.ensures.apart in
+    c.hint.ensures.keyed c.key.new.self keyed c.in_ok-key.ensures.known
 
 pub returns : goal.returns
 returns c =
-    let idle = c.is_idle.ensures ∙ ap (λ (b : BoundedCache). is_idle_hint b.depth b.cache c.args.spot.now) (sym c.self.view_is) in
-    lists-hinted c.self.inside.cached c.self.inside.queue c.args.spot.now c.self.invariant c.is_idle.result idle c.if-is_idle.false c.put.new.self c.demote.new.self tt c.in_ok-put.ensures.entries c.demote.ensures.entries
-    ∙ ap (λ (b : BoundedCache). record b { cache = hinted b.depth b.cache c.args.spot.now }) c.self.view_is
+    let names = c.key.new.self in
+    let b : BoundedCache = lists_by names c.self.inside.keyed in
+    let keyed = AreKeyed-stay c.self.inside.names names c.key.ensures.stays c.self.inside.keyed c.self.invariant c.key.ensures.apart in
+    let lists = lists-stay c.self.inside.names names c.key.ensures.stays c.self.inside.keyed c.self.invariant ∙ c.self.view_is in
+    on_ok_weaker c.hint.result
+    (λ told.
+    told names keyed c.in_ok-key.ensures.known
+    ∙ ap (λ s. record b { cache = hinted b.depth b.cache s }) c.in_ok-key.ensures.spot
+    ∙ ap (λ (l : BoundedCache). record l { cache = hinted l.depth l.cache c.args.spot.now }) lists)
+    c.hint.ensures.lists

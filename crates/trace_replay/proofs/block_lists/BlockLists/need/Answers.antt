@@ -1,47 +1,39 @@
-use Rattle.std.proofs.Common.{sym, ◌∙◌, ap}
-use Rattle.program_model.specs.Cache.{used, landed, awaited, kept}
-use Rattle.trace_replay.specs.Lists.{BoundedCache}
-use Rattle.trace_replay.proofs.Entries.{found-holds}
-use Rattle.trace_replay.proofs.Tables.{lists-used, IsFitted-used, lists-fetched, IsFitted-fetched, IsFitted-landed}
+use Rattle.std.proofs.Common.{◌≡◌, Bool, ◌∙◌, ap}
+use Rattle.std.proofs.lemmas.Result.{IfOk-weaker}
+use Rattle.program_model.specs.Cache.{holds}
+use Rattle.trace_replay.specs.Lists.{BoundedCache, after_need}
+use Rattle.trace_replay.specs.Keyed.{lists_by}
+use Rattle.trace_replay.proofs.Named.{lists-stay, AreKeyed-stay}
 use Rattle.trace_replay.proofs.block_lists.BlockLists.need.Goals as goal
 
--- ---- the block is cached
-
 pub invariant_of-self : goal.invariant_of-self
-invariant_of-self c =
-    let here = sym (found-holds c.args.spot.now c.self.inside.cached.entries) ∙ sym c.promote.ensures.value ∙ c.if-promote.true in
-    IsFitted-used c.self.inside.cached c.self.inside.queue c.args.spot.now c.self.invariant c.promote.new.self c.promote.ensures.entries here
-
-pub returns-then-promote-clause-cached : goal.returns-then-promote-clause-cached
-returns-then-promote-clause-cached c =
-    let here = sym (found-holds c.args.spot.now c.self.inside.cached.entries) ∙ sym c.promote.ensures.value ∙ c.if-promote.true in
-    rw (← c.self.view_is) (sym here)
-
-pub returns-then-promote-clause-lists : goal.returns-then-promote-clause-lists
-returns-then-promote-clause-lists c =
-    let here = sym (found-holds c.args.spot.now c.self.inside.cached.entries) ∙ sym c.promote.ensures.value ∙ c.if-promote.true in
-    lists-used c.self.inside.cached c.self.inside.queue c.args.spot.now c.self.invariant c.promote.new.self c.promote.ensures.entries here
-    ∙ ap (λ (b : BoundedCache). record b { cache = used b.cache c.args.spot.now }) c.self.view_is
-
--- ---- it isn't
-
-pub invariant_of-self-in_err-put : goal.invariant_of-self-in_err-put
-invariant_of-self-in_err-put c =
-    let absent = sym (found-holds c.args.spot.now c.self.inside.cached.entries) ∙ sym c.promote.ensures.value ∙ c.if-promote.false in
-    IsFitted-landed c.self.inside.cached c.self.inside.queue c.args.spot.now c.self.invariant c.promote.new.self c.pop.new.self c.promote.ensures.entries c.pop.ensures.entries absent c.put.new.self c.in_err-put.ensures.err
+invariant_of-self c = AreKeyed-stay c.self.inside.names c.key.new.self c.key.ensures.stays c.self.inside.keyed c.self.invariant c.key.ensures.apart
 
 pub invariant_of-self-2 : goal.invariant_of-self-2
 invariant_of-self-2 c =
-    let absent = sym (found-holds c.args.spot.now c.self.inside.cached.entries) ∙ sym c.promote.ensures.value ∙ c.if-promote.false in
-    IsFitted-fetched c.self.inside.cached c.self.inside.queue c.args.spot.now c.self.invariant c.promote.new.self c.pop.new.self c.promote.ensures.entries c.pop.ensures.entries absent c.put.new.self tt c.in_ok-put.ensures.entries
+    let keyed = AreKeyed-stay c.self.inside.names c.key.new.self c.key.ensures.stays c.self.inside.keyed c.self.invariant c.key.ensures.apart in
+    c.need.ensures.keyed c.key.new.self keyed c.in_ok-key.ensures.known
 
 pub returns-clause-cached : goal.returns-clause-cached
 returns-clause-cached c =
-    let absent = sym (found-holds c.args.spot.now c.self.inside.cached.entries) ∙ sym c.promote.ensures.value ∙ c.if-promote.false in
-    rw (← c.self.view_is) (sym absent)
+    let names = c.key.new.self in
+    let keyed = AreKeyed-stay c.self.inside.names names c.key.ensures.stays c.self.inside.keyed c.self.invariant c.key.ensures.apart in
+    let lists = lists-stay c.self.inside.names names c.key.ensures.stays c.self.inside.keyed c.self.invariant ∙ c.self.view_is in
+    IfOk-weaker c.need.result _ (λ cached. cached ≡ holds c.args.self.now.cache.cached c.args.spot.now)
+    (λ cached told.
+    told names keyed c.in_ok-key.ensures.known
+    ∙ ap (λ s. holds (lists_by names c.self.inside.keyed).cache.cached s) c.in_ok-key.ensures.spot
+    ∙ ap (λ (b : BoundedCache). holds b.cache.cached c.args.spot.now) lists)
+    c.need.ensures.cached
 
 pub returns-clause-lists : goal.returns-clause-lists
 returns-clause-lists c =
-    let absent = sym (found-holds c.args.spot.now c.self.inside.cached.entries) ∙ sym c.promote.ensures.value ∙ c.if-promote.false in
-    lists-fetched c.self.inside.cached c.self.inside.queue c.args.spot.now c.self.invariant c.promote.new.self c.pop.new.self c.promote.ensures.entries c.pop.ensures.entries absent c.put.new.self tt c.in_ok-put.ensures.entries
-    ∙ ap (λ (b : BoundedCache). record b { cache = kept b.blocks (landed (awaited b.cache c.args.spot.now)) c.args.spot.now }) c.self.view_is
+    let names = c.key.new.self in
+    let keyed = AreKeyed-stay c.self.inside.names names c.key.ensures.stays c.self.inside.keyed c.self.invariant c.key.ensures.apart in
+    let lists = lists-stay c.self.inside.names names c.key.ensures.stays c.self.inside.keyed c.self.invariant ∙ c.self.view_is in
+    IfOk-weaker c.need.result _ _
+    (λ cached told.
+    told names keyed c.in_ok-key.ensures.known
+    ∙ ap (λ s. record (lists_by names c.self.inside.keyed) { cache = after_need cached (lists_by names c.self.inside.keyed).blocks (lists_by names c.self.inside.keyed).cache s }) c.in_ok-key.ensures.spot
+    ∙ ap (λ (b : BoundedCache). record b { cache = after_need cached b.blocks b.cache c.args.spot.now }) lists)
+    c.need.ensures.lists
