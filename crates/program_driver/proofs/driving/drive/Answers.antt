@@ -1,9 +1,6 @@
-use Rattle.std.proofs.Common.{◌≡◌, ◌∙◌, ◌+◌, ◌≤◌, ◌^◌, List, [], ◌++◌, length, ap, sym, subst, arith, refl}
+use Rattle.std.proofs.Common.{◌≡◌, ◌∙◌, ◌+◌, [], ◌++◌, length, ap, sym, arith, refl}
 use Rattle.std.specs.Prelude.{replicate}
-use Rattle.spec_base.specs.declared.note.Move.{Move}
 use Rattle.run_model.specs.Patterns.{pattern_moves}
-use Rattle.plain_runner.specs.Runs.{Outside}
-use Rattle.program_driver.specs.Progress.{Progress}
 use Rattle.program_driver.proofs.Rounding.{all-length}
 use Rattle.program_driver.proofs.Stretching.{stretch-length}
 use Rattle.program_driver.proofs.Driven.{moves-Progress, first-Progress, over-Drives}
