@@ -7,6 +7,7 @@ mod plain;
 mod plan;
 mod replay;
 mod rewrite;
+mod run;
 mod status;
 #[cfg(test)]
 mod tests;

@@ -1,5 +1,7 @@
 //! The command `plain` over a store and two sinks in memory.
 
+mod run;
+
 use crate::status::Status;
 use crate::top::spechint;
 use elf_image::Refusal;
