@@ -1,6 +1,7 @@
 //! The command `run`.
 
-ghost use Rattle.std.specs.Prelude.{◌≡◌, ◌≤◌, All, map, string_bytes, MatchResult};
+ghost use Rattle.std.specs.Prelude.{◌≡◌, ◌≤◌, All, Err, map, string_bytes};
+ghost use Rattle.elf_image.specs.Profile.{profile};
 ghost use Rattle.run_laws.specs.OwnLaws.{AllBytes};
 ghost use Rattle.command_words.specs.Limits.{IsWithinLimits};
 ghost use Rattle.spechint_commands.specs.Opens.{HoldsRewritten, OpensFile, OpensTo};
@@ -39,6 +40,12 @@ fn rewritten_file(
     Ok(sink)
 }
 
+/// The types of a file and of arguments say that these are bytes.
+fn are_bytes(_file: &[u8], _words: &[String])
+    ensures file { AllBytes _file.now }
+    ensures words { All AllBytes (map string_bytes _words.now) }
+{}
+
 /// Opens a rewritten file, of which no more is told than that it is damaged.
 fn open(alloc: Global, file: &[u8], request: &Request) -> Result<Runner, Status>
     requires { IsWithinLimits request.now }
@@ -51,19 +58,33 @@ fn open(alloc: Global, file: &[u8], request: &Request) -> Result<Runner, Status>
     }
 }
 
+/// Opens a file that the profile refuses for this reason, if it is a rewritten one.
+fn open_refused(
+    alloc: Global,
+    bytes: &[u8],
+    why: Refusal,
+    request: &Request,
+) -> Result<Runner, Status>
+    requires request { IsWithinLimits request.now }
+    requires refused { profile bytes.now request.now.options.layout ≡ Err why }
+    ensures { OpensTo request.now bytes.now result }
+{
+    if why != Refusal::Already {
+        return Err(Status::Refused(why));
+    }
+    open(alloc, bytes, request)
+}
+
 /// Opens what a request executes: the rewritten file of an accepted file, and a rewritten file as it is.
 fn open_image(alloc: Global, bytes: &[u8], request: &Request) -> Result<Runner, Status>
     requires { IsWithinLimits request.now }
-    ensures opens { OpensTo request.now bytes.now result }
-    ensures bytes { AllBytes bytes.now }
-    ensures words { All AllBytes request.now.arguments }
+    ensures { OpensTo request.now bytes.now result }
 {
     rewritten_is_recovered();
     let options = &request.options;
     match &rewritten_file(alloc, bytes, options.regions, options.layout) {
         Ok(sink) => open(alloc, sink.bytes(), request),
-        Err(ReadFault::Refused(Refusal::Already)) => open(alloc, bytes, request),
-        Err(ReadFault::Refused(why)) => Err(Status::Refused(*why)),
+        Err(ReadFault::Refused(why)) => open_refused(alloc, bytes, *why, request),
         Err(ReadFault::NoMemory) => Err(Status::NoMemory),
     }
 }
@@ -89,6 +110,7 @@ pub fn run<D: Store, O: Sink, E: Sink>(
         Ok(runner) => runner,
         Err(status) => return status,
     };
+    are_bytes(&bytes, request.arguments.as_slice());
     let options = &request.options;
     let ending = drive(
         alloc,
