@@ -16,6 +16,7 @@ use crate::replay::replay;
 use crate::rewrite::rewrite;
 use crate::run::run;
 use crate::status::{Status, tell};
+use crate::trace::trace;
 use command_words::{Command, Request, read_words};
 use file_runs::runs_are_as_plain;
 use run_promises::runs_keep;
@@ -41,7 +42,8 @@ fn command<D: Store, O: Sink, E: Sink>(
         Command::Replay => replay(alloc, request, store, out),
         Command::Plan => plan(alloc, request, store, out),
         Command::Run => run(alloc, request, store, out, err),
-        Command::Trace | Command::Demo => Status::NotBuilt,
+        Command::Trace => trace(alloc, request, store, out),
+        Command::Demo => Status::NotBuilt,
     }
 }
 
