@@ -65,7 +65,7 @@ ran-Rose go r old new a =
     let cause = subst (λ e. HasCause e (record old { store = a.between }) new) a.gives a.cause in
     earlier_Rose old.store.faults a.between.faults new.store.faults a.read.went.keeps.later cause
 
-image_store_fault : (go : Going) (r : Request) (old new : Outside) → ImageTo go r StoreFault old new → Rose old.store.faults new.store.faults
+pub image_store_fault : (go : Going) (r : Request) (old new : Outside) → ImageTo go r StoreFault old new → Rose old.store.faults new.store.faults
 image_store_fault go r old new (inl stopped) = failed_read old.store new.store (image_name r) stopped.0
 image_store_fault go r old new (inr a) = ran-Rose go r old new a
 

@@ -53,8 +53,8 @@ driven-Ran go r bytes status ending first last between old new limits all words 
         are_words = words;
         are_files = are;
       };
-      went = λ files are true. (drives.went (run_world file r.arguments files) (before.stands files are).accepted
-          (opened-now first (run_world file r.arguments files) (before.stands files are).shows) true).0;
+      went = λ files are told. (drives.went (run_world file r.arguments files) (before.stands files are).accepted
+          (opened-now first (run_world file r.arguments files) (before.stands files are).shows) told).0;
       later = later;
       cause = cause;
     }
