@@ -12,6 +12,7 @@ use Rattle.whole_file.specs.Reading.{ReadsWhole, SaysOf}
 use Rattle.whole_file.specs.declared.reading.ReadFault.{ReadFault}
 use Rattle.whole_file.specs.declared.reading.ReadFault.TheVariants as read
 use Rattle.elf_image.specs.Profile.{profile}
+use Rattle.elf_image.specs.declared.image.Image.{Image}
 use Rattle.elf_image.specs.declared.refusal.Refusal.{Refusal}
 use Rattle.elf_image.specs.declared.refusal.Refusal.TheVariants.{TooLong}
 use Rattle.rewriter.specs.declared.writing.Rewritten.TheVariants as rewritten
@@ -21,7 +22,19 @@ use Rattle.command_words.specs.declared.command.Command.{Command}
 use Rattle.command_words.specs.declared.command.Command.TheVariants.{Plain, Rewrite, Run, Trace, Demo, Replay, Plan}
 use Rattle.command_words.specs.declared.request.Request.{Request}
 use Rattle.plain_runner.specs.Runs.{Outside, EndsBy, Agrees, FailedPuts}
+use Rattle.plain_runner.specs.declared.ending.Ending.{Ending}
 use Rattle.plain_runner.specs.declared.ending.Ending.TheVariants as ending
+use Rattle.run_model.specs.Run.{World}
+use Rattle.run_model.specs.Moves.{Moves, run}
+use Rattle.run_promises.specs.Promises.{IsAsPlain}
+use Rattle.file_world.specs.Worlds.{AreFiles}
+use Rattle.file_runs.specs.Runs.{run_world, plain_program, RunsAreAsPlain}
+use Rattle.program_driver.specs.Lines.{ArePut, LinesTo, ending_with, fault_ending}
+use Rattle.program_driver.specs.Runs.{report_lines, is_reported}
+use Rattle.program_driver.specs.Traces.{TellsTo, all, in_move, at_turns, all_lines, over_bottomless}
+use Rattle.program_driver.specs.declared.lines.LineFault.{LineFault}
+use Rattle.program_driver.specs.declared.lines.LineFault.TheVariants.{Sink}
+use Rattle.program_driver.specs.declared.lines.LineFault.TheVariants as line
 use Rattle.spec_base.specs.declared.spot.BlockSpot.{BlockSpot}
 use Rattle.trace_text.specs.declared.trace_line.TraceLine.{TraceLine}
 use Rattle.trace_text.specs.Lines.{trace_in}
@@ -34,20 +47,17 @@ use Rattle.fetch_plan.specs.Traces.{needs_by, HasLeast}
 use Rattle.fetch_plan.specs.declared.traces.PlanTotals.{PlanTotals}
 use Rattle.spechint_commands.specs.Texts.{text_of}
 use Rattle.spechint_commands.specs.Lines.{replay_line, plan_line}
-use Rattle.spechint_commands.specs.Top.{Silent, Stopped, EndingStatus, Runs, Accepted, PlainTo, Rewrites, RewriteTo, ReadsTrace, PutsLine, settings_of, ReplayTo, PlanTo, CommandTo, IsOutcome, image_name}
-use Rattle.spechint_commands.specs.Defined.{EndsAs, IsPlainRun, ByProfile, BySize, ByFile, ByReplayed, ByNeeds, ByPlanned, ByTrace, ByTraceSize, ByTraceFile, ByCommand, ByRequest, IsDefined, IsSteady}
+use Rattle.spechint_commands.specs.Run.{asked_file, Going, Ran, ImageTo, RunGoes, TraceGoes, RunTo, TraceBy}
+use Rattle.spechint_commands.specs.Common.{Silent, Stopped, EndingStatus, ReadsFile, image_name}
+use Rattle.spechint_commands.specs.Top.{Runs, Accepted, PlainTo, Rewrites, RewriteTo, PutsLine, settings_of, ReplayTo, PlanTo, CommandTo, IsOutcome}
+use Rattle.spechint_commands.specs.Defined.{EndsAs, IsPlainRun, IsEnd, IsDefinedRun, IsDefinedTrace, ByOpened, ByUses, ByBytes, ByProfile, BySize, ByFile, ByReplayed, ByNeeds, ByPlanned, ByTrace, ByTraceSize, ByTraceFile, ByCommand, ByRequest, IsDefined, IsSteady}
 use Rattle.spechint_commands.specs.declared.status.Status.{Status}
 use Rattle.spechint_commands.specs.declared.status.Status.TheVariants.{Done, Exited, Trapped, TurnsOver, Usage, NotBuilt, Absent, Refused, BadLine, TooMany, StoreFault, SinkFault, NoMemory}
-use Rattle.spechint_commands.proofs.Causes.{ByMemory, SinkRose, failed_read, failed_run, put_failed}
+use Rattle.runner.specs.Causes.{SinkRose}
+use Rattle.spechint_commands.proofs.AsPlain.{as_plain-store}
+use Rattle.spechint_commands.proofs.Causes.{ByMemory, failed_read, failed_run, put_failed, image_store_fault, ran-SinkRose}
 
 -- ---- runs
-
--- statuses of a program that has come to its end, or to the end of its turns
-abbrev pub IsEnd : Status → Type 0
-IsEnd (Exited code) = Unit {0}
-IsEnd (Trapped cause pc) = Unit {0}
-IsEnd (TurnsOver count) = Unit {0}
-IsEnd other = ⊥
 
 -- a run that told its files is the plain run over these
 run-IsPlainRun : (p : Program) (files : Files) (turns : ℕ) (status : Status) (old new : Outside) → old.store.files ≡ Some files → IsEnd status
@@ -106,18 +116,22 @@ told_of a b name answer files e r = subst (λ o. IfSome o (λ f. SaysOf (f name)
 
 -- a file that was read, by what the profile says of it
 judged : (c : Command) (r : Request) (files : Files) (bytes : List ℕ) (status : Status) (old new : Outside) → files (image_name r) ≡ Some bytes → length bytes ≤ file_limit
-    → ByProfile c (profile bytes r.options.layout) files bytes r status old new → ByFile c (files (image_name r)) files r status old new
+    → ByBytes c files bytes r status old new → ByFile c (files (image_name r)) files r status old new
 judged c r files bytes status old new file few by =
     let small : nat_lt file_limit (length bytes) ≡ false = grind (arith, nat_tests) in
     subst (λ f. ByFile c f files r status old new) (sym file) (subst (λ b. BySize c b files bytes r status old new) (sym small) by)
 
--- a file that was read and refused
+-- a file that was read and refused, of which each file of these bytes is judged so
 judged_refused : (c : Command) (r : Request) (files : Files) (why : Refusal) (bytes : List ℕ) (old new : Outside) → old.store.files ≡ Some files
-    → ReadsWhole old.store (image_name r) (Ok bytes) new.store → profile bytes r.options.layout ≡ Err why → Silent old new
-    → ByFile c (files (image_name r)) files r (Refused why) old new
-judged_refused c r files why bytes old new e whole verdict silent =
+    → ReadsFile r bytes old new → ByBytes c files bytes r (Refused why) old new → ByFile c (files (image_name r)) files r (Refused why) old new
+judged_refused c r files why bytes old new e whole by =
     let told = told_of old.store new.store (image_name r) (Ok bytes) files e whole in
-    judged c r files bytes (Refused why) old new told.0 told.1 (subst (λ v. ByProfile c v files bytes r (Refused why) old new) (sym verdict) (refl, silent))
+    judged c r files bytes (Refused why) old new told.0 told.1 by
+
+-- by the profile
+refused_by : (c : Command) (v : Result Image Refusal) (r : Request) (files : Files) (why : Refusal) (bytes : List ℕ) (old new : Outside) → v ≡ Err why → Silent old new
+    → ByProfile c v files bytes r (Refused why) old new
+refused_by c v r files why bytes old new verdict silent = subst (λ v. ByProfile c v files bytes r (Refused why) old new) (sym verdict) (refl, silent)
 
 -- a file that is too long
 refused_unread : (c : Command) (r : Request) (files : Files) (why : Refusal) (old new : Outside) → old.store.files ≡ Some files → Stopped r read.TooLong old new → why ≡ TooLong
@@ -162,7 +176,7 @@ by_status r files (Trapped t pc) old new e h s o w = inr (ran r files (Trapped t
 by_status r files (TurnsOver count) old new e h s o w = inr (ran r files (TurnsOver count) old new e tt h)
 by_status r files Absent old new e h s o w = inr (absent Plain r files old new e h)
 by_status r files (Refused why) old new e (inl (stopped, long)) s o w = inr (refused_unread Plain r files why old new e stopped long)
-by_status r files (Refused why) old new e (inr (bytes, whole, verdict, silent)) s o w = inr (judged_refused Plain r files why bytes old new e whole verdict silent)
+by_status r files (Refused why) old new e (inr (bytes, whole, verdict, silent)) s o w = inr (judged_refused Plain r files why bytes old new e whole (refused_by Plain (profile bytes r.options.layout) r files why bytes old new verdict silent))
 by_status r files StoreFault old new e (inl stopped) s o w = absurd (clash old.store.faults new.store.faults (failed_read old.store new.store (image_name r) stopped.0) s)
 by_status r files StoreFault old new e (inr a) s o w = absurd (clash old.store.faults new.store.faults (failed_run r old new a) s)
 by_status r files SinkFault old new e a s o w = absurd (no_sink_fault old new (put_failed r old new a) o w)
@@ -188,7 +202,7 @@ by_rewrite r files Done old new e h s o = inr (put_whole r files h.0 old new e h
 by_rewrite r files Absent old new e h s o = inr (absent Rewrite r files old new e h)
 by_rewrite r files (Refused why) old new e (inl (stopped, long)) s o = inr (refused_unread Rewrite r files why old new e stopped long)
 by_rewrite r files (Refused why) old new e (inr (bytes, whole, (verdict, out), err)) s o =
-    inr (judged_refused Rewrite r files why bytes old new e whole verdict (out, err))
+    inr (judged_refused Rewrite r files why bytes old new e whole (refused_by Rewrite (profile bytes r.options.layout) r files why bytes old new verdict (out, err)))
 by_rewrite r files StoreFault old new e h s o = absurd (clash old.store.faults new.store.faults (failed_read old.store new.store (image_name r) h.0) s)
 by_rewrite r files SinkFault old new e h s o = absurd (clash old.out.faults new.out.faults (rose-PutsText old.out new.out _ h.2.2.puts) o)
 by_rewrite r files NoMemory old new e h s o = inl refl
@@ -200,10 +214,126 @@ by_rewrite r files NotBuilt old new e h s o = absurd h
 by_rewrite r files (BadLine number) old new e h s o = absurd h
 by_rewrite r files TooMany old new e h s o = absurd h
 
+-- ---- `run`
+
+-- a program that came to its end met no fault of a line
+never_fault : (fault : LineFault) (end : Ending) (status : Status) → IsEnd status → EndingStatus end status → end ≡ fault_ending fault → ⊥
+never_fault Sink end status is gives same = by_end status is (subst (λ e. EndingStatus e status) same gives)
+  where
+    by_end : (s : Status) → IsEnd s → EndingStatus ending.SinkFault s → ⊥
+    by_end (Exited code) is gives = (let bad = gives in cc)
+    by_end (Trapped cause pc) is gives = (let bad = gives in cc)
+    by_end (TurnsOver count) is gives = (let bad = gives in cc)
+    by_end _ is gives = is
+never_fault line.NoMemory end status is gives same = by_end status is (subst (λ e. EndingStatus e status) same gives)
+  where
+    by_end : (s : Status) → IsEnd s → EndingStatus ending.NoMemory s → ⊥
+    by_end (Exited code) is gives = (let bad = gives in cc)
+    by_end (Trapped cause pc) is gives = (let bad = gives in cc)
+    by_end (TurnsOver count) is gives = (let bad = gives in cc)
+    by_end _ is gives = is
+
+-- so the lines behind it were put whole
+whole_lines : (reached end : Ending) (answer : Result (Unit {0}) LineFault) (status : Status) → IsEnd status → EndingStatus end status → end ≡ ending_with reached answer
+    → (done : Unit {0}) × (answer ≡ Ok done)
+whole_lines reached end (Ok done) status is gives same = (done, refl)
+whole_lines reached end (Err fault) status is gives same = absurd (never_fault fault end status is gives same)
+
+-- a run over files that are told, which came to its end
+defined_run : RunsAreAsPlain → (r : Request) (files : Files) (status : Status) (old new : Outside) → old.store.files ≡ Some files → IsEnd status → (a : Ran (RunGoes r) r status old new)
+    → AreFiles files → IsDefinedRun r a.bytes a.file files status old new
+defined_run law r files status old new e end a are =
+    let to = a.went files are (a.told files e) in
+    let whole = whole_lines to.reached a.ending to.answer status end a.gives to.ends in
+    let same : a.ending ≡ to.reached = to.ends ∙ ap (ending_with to.reached) whole.1 in
+    record {
+      ending = to.reached;
+      gives = subst (λ e. EndingStatus e status) same a.gives;
+      moves = a.moves;
+      behind = to.between;
+      made = to.moves.made;
+      as_plain = as_plain-store (plain_program r.options.layout a.bytes r.arguments) files to.reached a.between old (record new { err = to.between })
+          (law r.options.regions r.options.layout a.bytes a.file r.arguments files (a.is_run files are) r.options.pattern r.options.turns to.reached a.moves
+          (record old { store = a.between }) (record new { err = to.between }) to.moves);
+      reports = subst (λ l. LinesTo (report_lines (is_reported r.options.report to.reached) (run (run_world a.file r.arguments files) a.moves)) l to.between new.err) whole.1 to.reports;
+    }
+
+-- all lines of a trace were put
+whole_trace : (w : World) (ms : Moves) (reached end : Ending) (old new : SinkState) (status : Status) → IsEnd status → EndingStatus end status → TellsTo w ms reached end old new
+    → (end ≡ reached) × ArePut old (all_lines w ms reached) new
+whole_trace w ms reached end old new status is gives (all same puts) = (same, puts)
+whole_trace w ms reached end old new status is gives (in_move fault front m between same made puts some) = absurd (never_fault fault end status is gives same)
+whole_trace w ms reached end old new status is gives (at_turns fault between same puts some) = absurd (never_fault fault end status is gives same)
+
+-- a trace over files that are told, whose run came to its end
+defined_trace : RunsAreAsPlain → (r : Request) (files : Files) (status : Status) (old new : Outside) → old.store.files ≡ Some files → IsEnd status → (a : Ran (TraceGoes r) r status old new)
+    → AreFiles files → IsDefinedTrace r a.bytes a.file files status old new
+defined_trace law r files status old new e end a are =
+    let to = a.went files are (a.told files e) in
+    let lines = whole_trace (run_world a.file r.arguments files) a.moves to.reached a.ending old.out new.out status end a.gives to.out in
+    record {
+      ending = to.reached;
+      gives = subst (λ e. EndingStatus e status) lines.0 a.gives;
+      moves = a.moves;
+      made = to.moves.made;
+      as_plain = as_plain-store (plain_program r.options.layout a.bytes r.arguments) files to.reached a.between (over_bottomless old.store) (over_bottomless new.store)
+          (law r.options.regions r.options.layout a.bytes a.file r.arguments files (a.is_run files are) r.options.pattern r.options.turns to.reached a.moves
+          (over_bottomless a.between) (over_bottomless new.store) to.moves);
+      lines = lines.1;
+      err = to.err;
+    }
+
+-- a file that is executed, by what the command says of its bytes
+module _ (c : Command) (go : Going) (r : Request) (files : Files) (ends : Status → Outside → Outside → List ℕ → List ℕ → Type 0)
+    (says : (status : Status) (old new : Outside) (bytes : List ℕ) → ByOpened (ends status old new bytes) (asked_file r bytes) status old new → ByBytes c files bytes r status old new) where
+  -- its program came to its end
+  ran_to_end : (status : Status) (old new : Outside) → old.store.files ≡ Some files → IsEnd status → (a : Ran go r status old new) → ends status old new a.bytes a.file
+      → ByFile c (files (image_name r)) files r status old new
+  ran_to_end status old new e end a is =
+      let told = told_of old.store a.between (image_name r) (Ok a.bytes) files e a.read in
+      judged c r files a.bytes status old new told.0 told.1
+      (says status old new a.bytes (subst (λ v. ByOpened (ends status old new a.bytes) v status old new) (sym a.opens) (end, is)))
+
+  -- status by status
+  by_image : (status : Status) (old new : Outside) → old.store.files ≡ Some files → (IsEnd status → (a : Ran go r status old new) → ends status old new a.bytes a.file)
+      → ImageTo go r status old new → Steady old.store.faults new.store.faults → Steady old.out.faults new.out.faults → Steady old.err.faults new.err.faults
+      → (status ≡ NoMemory) ⊎ ByFile c (files (image_name r)) files r status old new
+  by_image (Exited code) old new e is a s o w = inr (ran_to_end (Exited code) old new e tt a (is tt a))
+  by_image (Trapped cause pc) old new e is a s o w = inr (ran_to_end (Trapped cause pc) old new e tt a (is tt a))
+  by_image (TurnsOver count) old new e is a s o w = inr (ran_to_end (TurnsOver count) old new e tt a (is tt a))
+  by_image Absent old new e is h s o w = inr (absent c r files old new e h)
+  by_image (Refused why) old new e is (inl (stopped, long)) s o w = inr (refused_unread c r files why old new e stopped long)
+  by_image (Refused why) old new e is (inr (bytes, whole, verdict, silent)) s o w =
+      inr (judged_refused c r files why bytes old new e whole
+      (says (Refused why) old new bytes (subst (λ v. ByOpened (ends (Refused why) old new bytes) v (Refused why) old new) (sym verdict) (refl, silent))))
+  by_image StoreFault old new e is h s o w = absurd (clash old.store.faults new.store.faults (image_store_fault go r old new h) s)
+  by_image SinkFault old new e is a s o w = absurd (no_sink_fault old new (ran-SinkRose go r old new a) o w)
+  by_image NoMemory old new e is h s o w = inl refl
+  by_image Done old new e is h s o w = absurd h
+  by_image Usage old new e is h s o w = absurd h
+  by_image NotBuilt old new e is h s o w = absurd h
+  by_image (BadLine number) old new e is h s o w = absurd h
+  by_image TooMany old new e is h s o w = absurd h
+
+by_run : RunsAreAsPlain → (r : Request) (files : Files) (status : Status) (old new : Outside) → old.store.files ≡ Some files → RunTo r status old new
+    → Steady old.store.faults new.store.faults → Steady old.out.faults new.out.faults → Steady old.err.faults new.err.faults
+    → (status ≡ NoMemory) ⊎ ByFile Run (files (image_name r)) files r status old new
+by_run law r files status old new e h s o w =
+    by_image Run (RunGoes r) r files (λ status old new bytes file. AreFiles files → IsDefinedRun r bytes file files status old new) (λ status old new bytes by. by)
+    status old new e (λ end a. defined_run law r files status old new e end a) h s o w
+
+by_uses : RunsAreAsPlain → (uses : Bool) (r : Request) (files : Files) (status : Status) (old new : Outside) → old.store.files ≡ Some files → TraceBy uses r status old new
+    → Steady old.store.faults new.store.faults → Steady old.out.faults new.out.faults → Steady old.err.faults new.err.faults
+    → (status ≡ NoMemory) ⊎ ByUses uses files r status old new
+by_uses law true r files status old new e h s o w = inr h
+by_uses law false r files status old new e h s o w =
+    by_image Trace (TraceGoes r) r files (λ status old new bytes file. AreFiles files → IsDefinedTrace r bytes file files status old new) (λ status old new bytes by. by)
+    status old new e (λ end a. defined_trace law r files status old new e end a) h s o w
+
 -- ---- traces
 
 -- a trace that was read, by what its lines say
-read_trace : (c : Command) (r : Request) (files : Files) (bytes : List ℕ) (status : Status) (old new : Outside) → old.store.files ≡ Some files → ReadsTrace r bytes old new
+read_trace : (c : Command) (r : Request) (files : Files) (bytes : List ℕ) (status : Status) (old new : Outside) → old.store.files ≡ Some files → ReadsFile r bytes old new
     → ByTrace c (trace_in bytes) r status old new → ByTraceFile c (files (image_name r)) r status old new
 read_trace c r files bytes status old new e whole by =
     let told = told_of old.store new.store (image_name r) (Ok bytes) files e whole in
@@ -299,16 +429,16 @@ by_plan r files NotBuilt old new e h s o = absurd h
 
 -- ---- commands
 
-by_command : (c : Command) (r : Request) (files : Files) (status : Status) (old new : Outside) → old.store.files ≡ Some files → CommandTo c r status old new
+by_command : RunsAreAsPlain → (c : Command) (r : Request) (files : Files) (status : Status) (old new : Outside) → old.store.files ≡ Some files → CommandTo c r status old new
     → Steady old.store.faults new.store.faults → Steady old.out.faults new.out.faults → Steady old.err.faults new.err.faults
     → (status ≡ NoMemory) ⊎ ByCommand c files r status old new
-by_command Plain r files status old new e h s o w = by_status r files status old new e h s o w
-by_command Rewrite r files status old new e h s o w = by_rewrite r files status old new e h s o
-by_command Run r files status old new e h s o w = inr h
-by_command Trace r files status old new e h s o w = inr h
-by_command Demo r files status old new e h s o w = inr h
-by_command Replay r files status old new e h s o w = by_replay r files status old new e h s o
-by_command Plan r files status old new e h s o w = by_plan r files status old new e h s o
+by_command law Plain r files status old new e h s o w = by_status r files status old new e h s o w
+by_command law Rewrite r files status old new e h s o w = by_rewrite r files status old new e h s o
+by_command law Run r files status old new e h s o w = by_run law r files status old new e h s o w
+by_command law Trace r files status old new e h s o w = by_uses law r.options.uses r files status old new e h s o w
+by_command law Demo r files status old new e h s o w = inr h
+by_command law Replay r files status old new e h s o w = by_replay r files status old new e h s o
+by_command law Plan r files status old new e h s o w = by_plan r files status old new e h s o
 
 -- ---- the text is whole
 
@@ -337,6 +467,30 @@ later_err r Usage old new h = absurd h
 later_err r NotBuilt old new h = absurd h
 later_err r (BadLine number) old new h = absurd h
 later_err r TooMany old new h = absurd h
+
+-- nor does a run of a rewritten program
+image_err : (go : Going) (r : Request) (status : Status) (old new : Outside) → ImageTo go r status old new → old.err.faults ≤ new.err.faults
+image_err go r (Exited c) old new a = a.later.err
+image_err go r (Trapped t pc) old new a = a.later.err
+image_err go r (TurnsOver count) old new a = a.later.err
+image_err go r SinkFault old new a = a.later.err
+image_err go r Absent old new h = silent_err old new h.1
+image_err go r StoreFault old new (inl stopped) = silent_err old new stopped.1
+image_err go r StoreFault old new (inr a) = a.later.err
+image_err go r (Refused why) old new (inl (stopped, long)) = silent_err old new stopped.1
+image_err go r (Refused why) old new (inr (bytes, whole, verdict, silent)) = silent_err old new silent
+image_err go r NoMemory old new (inl (inl stopped)) = silent_err old new stopped.1
+image_err go r NoMemory old new (inl (inr (bytes, whole, may, silent))) = silent_err old new silent
+image_err go r NoMemory old new (inr a) = a.later.err
+image_err go r Done old new h = absurd h
+image_err go r Usage old new h = absurd h
+image_err go r NotBuilt old new h = absurd h
+image_err go r (BadLine number) old new h = absurd h
+image_err go r TooMany old new h = absurd h
+
+trace_err : (uses : Bool) (r : Request) (status : Status) (old new : Outside) → TraceBy uses r status old new → old.err.faults ≤ new.err.faults
+trace_err true r status old new h = silent_err old new h.1.1
+trace_err false r status old new h = image_err (TraceGoes r) r status old new h
 
 -- rewriting puts nothing on standard error
 rewrite_err : (r : Request) (status : Status) (old new : Outside) → RewriteTo r status old new → new.err ≡ old.err
@@ -393,8 +547,8 @@ plan_err r NotBuilt old new h = absurd h
 later_in : (c : Command) (r : Request) (status : Status) (old new : Outside) → CommandTo c r status old new → old.err.faults ≤ new.err.faults
 later_in Plain r status old new h = later_err r status old new h
 later_in Rewrite r status old new h = (let same = ap (λ s. s.faults) (rewrite_err r status old new h) in omega arith)
-later_in Run r status old new h = silent_err old new h.1.1
-later_in Trace r status old new h = silent_err old new h.1.1
+later_in Run r status old new h = image_err (RunGoes r) r status old new h
+later_in Trace r status old new h = trace_err r.options.uses r status old new h
 later_in Demo r status old new h = silent_err old new h.1.1
 later_in Replay r status old new h = (let same = ap (λ s. s.faults) (replay_err r status old new h) in omega arith)
 later_in Plan r status old new h = (let same = ap (λ s. s.faults) (plan_err r status old new h) in omega arith)
@@ -412,24 +566,24 @@ with_text : (r : Request) (files : Files) (status : Status) (old new : Outside) 
 with_text r files status old new err puts (inl e) = inl e
 with_text r files status old new err puts (inr by) = inr (err, by, puts)
 
-by_request : (o : Option Request) (files : Files) (status : Status) (old new : Outside) → old.store.files ≡ Some files → ByMemory o status old new
+by_request : RunsAreAsPlain → (o : Option Request) (files : Files) (status : Status) (old new : Outside) → old.store.files ≡ Some files → ByMemory o status old new
     → IsSteady old new → (status ≡ NoMemory) ⊎ ByRequest o files status old new
-by_request o files status old new e (inl h) s = inl h.0
-by_request None files status old new e (inr h) s =
+by_request law o files status old new e (inl h) s = inl h.0
+by_request law None files status old new e (inr h) s =
     let told = h.1 in
     inr (h.0, told.0, told.1, (whole_text old.err old.err new.err (text_of Usage []) told.2.0 (omega arith) told.2.1 s.err).0)
-by_request (Some r) files status old new e (inr h) s =
+by_request law (Some r) files status old new e (inr h) s =
     let mid : Outside = record new { err = h.0 } in
     let later = later_in r.command r status old mid h.1 in
     let whole = whole_text old.err h.0 new.err (text_of status (image_name r)) h.2.0 later h.2.1 s.err in
     let steady : Steady old.err.faults h.0.faults = (let up = whole.1 in let now = s.err in omega arith) in
-    with_text r files status old new h.0 whole.0 (by_command r.command r files status old mid e h.1 s.store s.out steady)
+    with_text r files status old new h.0 whole.0 (by_command law r.command r files status old mid e h.1 s.store s.out steady)
 
 -- the outcome is the defined one
-pub outcome-IsDefined : (words : List (List ℕ)) (status : Status) (old new : Outside) → IsOutcome words status old new
+pub outcome-IsDefined : RunsAreAsPlain → (words : List (List ℕ)) (status : Status) (old new : Outside) → IsOutcome words status old new
     → IfSome old.store.files (λ files. IsSteady old new → IsDefined words files status old new)
-outcome-IsDefined words status old new h = by old.store.files refl
+outcome-IsDefined law words status old new h = by old.store.files refl
   where
     by : (o : Option Files) → old.store.files ≡ o → IfSome o (λ files. IsSteady old new → IsDefined words files status old new)
     by None e = tt
-    by (Some files) e = λ s. record { by = by_request (command_of words) files status old new e h.by s }
+    by (Some files) e = λ s. record { by = by_request law (command_of words) files status old new e h.by s }

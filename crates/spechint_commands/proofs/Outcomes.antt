@@ -8,7 +8,8 @@ use Rattle.rewriter.specs.declared.writing.Rewritten.{Rewritten}
 use Rattle.rewriter.specs.declared.writing.Rewritten.TheVariants as rewritten
 use Rattle.command_words.specs.declared.request.Request.{Request}
 use Rattle.plain_runner.specs.Runs.{Outside}
-use Rattle.spechint_commands.specs.Top.{FileRead, Silent, Accepted, PlainTo, RunsImage, Rewrites, RewrittenStatus, RewriteTo, ReplayTo, PlanTo, image_name}
+use Rattle.spechint_commands.specs.Common.{FileRead, Silent, image_name}
+use Rattle.spechint_commands.specs.Top.{Accepted, PlainTo, RunsImage, Rewrites, RewrittenStatus, RewriteTo, ReplayTo, PlanTo}
 use Rattle.spechint_commands.specs.declared.status.Status.{Status}
 use Rattle.spechint_commands.specs.declared.status.Status.TheVariants.{Done, Exited, Trapped, TurnsOver, Usage, NotBuilt, Absent, Refused, BadLine, TooMany, StoreFault, SinkFault, NoMemory}
 

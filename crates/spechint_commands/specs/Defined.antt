@@ -9,8 +9,17 @@ use Rattle.elf_image.specs.Profile.{profile}
 use Rattle.elf_image.specs.declared.image.Image.{Image}
 use Rattle.elf_image.specs.declared.refusal.Refusal.{Refusal}
 use Rattle.elf_image.specs.declared.refusal.Refusal.TheVariants.{TooLong}
+use Rattle.run_model.specs.Moves.{Moves, run}
+use Rattle.run_promises.specs.Schedules.{AreMade}
+use Rattle.run_promises.specs.Promises.{IsAsPlain}
+use Rattle.file_world.specs.Worlds.{AreFiles}
+use Rattle.file_runs.specs.Runs.{run_world, plain_program}
+use Rattle.program_driver.specs.Lines.{ArePut}
+use Rattle.program_driver.specs.Runs.{report_lines, is_reported}
+use Rattle.program_driver.specs.Traces.{over_bottomless, all_lines}
 use Rattle.program_model.specs.PlainRun.{State, Image as Program, Taken, plain_state, TrapsAt, end_of}
 use Rattle.plain_runner.specs.Runs.{Outside, Agrees, output_of}
+use Rattle.plain_runner.specs.declared.ending.Ending.{Ending}
 use Rattle.rewriter.specs.Layouts.{rewritten}
 use Rattle.command_words.specs.CommandLine.{command_of}
 use Rattle.command_words.specs.declared.command.Command.{Command}
@@ -26,7 +35,9 @@ use Rattle.fetch_plan.specs.Traces.{HasLeast}
 use Rattle.fetch_plan.specs.declared.traces.PlanTotals.{PlanTotals}
 use Rattle.spechint_commands.specs.Texts.{text_of}
 use Rattle.spechint_commands.specs.Lines.{replay_line, plan_line}
-use Rattle.spechint_commands.specs.Top.{Silent, Untouched, PutsLine, settings_of, image_name, asked_program}
+use Rattle.spechint_commands.specs.Common.{Silent, Untouched, EndingStatus, image_name}
+use Rattle.spechint_commands.specs.Run.{asked_file}
+use Rattle.spechint_commands.specs.Top.{PutsLine, settings_of, asked_program}
 use Rattle.spechint_commands.specs.declared.status.Status.{Status}
 use Rattle.spechint_commands.specs.declared.status.Status.TheVariants.{Done, Exited, Trapped, TurnsOver, Usage, NotBuilt, Absent, Refused, BadLine, TooMany, StoreFault, SinkFault, NoMemory}
 
@@ -61,6 +72,40 @@ pub record IsPlainRun (p : Program) (files : Files) (turns : ℕ) (status : Stat
   pub out_log : SinkLog old.out outs None new.out
   pub err_log : SinkLog old.err errs None new.err
 
+-- ---- the commands `run` and `trace`
+
+-- an exit, a trap, or the end of the turns
+abbrev pub IsEnd : Status → Type 0
+IsEnd (Exited code) = Unit {0}
+IsEnd (Trapped cause pc) = Unit {0}
+IsEnd (TurnsOver count) = Unit {0}
+IsEnd other = ⊥
+
+-- the moves of the pattern were made in the file's world and so ended: the program does as by itself, and behind what it put the report's line was put where it was asked for
+pub record IsDefinedRun (r : Request) (bytes file : List ℕ) (files : Files) (status : Status) (old new : Outside) : Type 0 where
+  pub ending : Ending
+  pub gives : EndingStatus ending status
+  pub moves : Moves
+  pub behind : SinkState
+  pub made : AreMade (run_world file r.arguments files) r.options.pattern r.options.turns moves
+  pub as_plain : IsAsPlain (plain_program r.options.layout bytes r.arguments) files ending old (record new { err = behind })
+  pub reports : ArePut behind (report_lines (is_reported r.options.report ending) (run (run_world file r.arguments files) moves)) new.err
+
+-- and of a trace: the lines of all that the moves tell were put, and the line of the turns where all were made
+pub record IsDefinedTrace (r : Request) (bytes file : List ℕ) (files : Files) (status : Status) (old new : Outside) : Type 0 where
+  pub ending : Ending
+  pub gives : EndingStatus ending status
+  pub moves : Moves
+  pub made : AreMade (run_world file r.arguments files) r.options.pattern r.options.turns moves
+  pub as_plain : IsAsPlain (plain_program r.options.layout bytes r.arguments) files ending (over_bottomless old.store) (over_bottomless new.store)
+  pub lines : ArePut old.out (all_lines (run_world file r.arguments files) moves ending) new.out
+  pub err : new.err ≡ old.err
+
+-- what a file comes to: it is refused, or the program of the file that is executed comes to an end
+abbrev pub ByOpened : (List ℕ → Type 0) → Result (List ℕ) Refusal → Status → Outside → Outside → Type 0
+ByOpened ends (Ok file) status old new = IsEnd status × ends file
+ByOpened ends (Err why) status old new = (status ≡ Refused why) × Silent old new
+
 -- ---- commands
 
 -- what a command comes to on an accepted file
@@ -68,21 +113,25 @@ abbrev pub ByAccepted : Command → Files → List ℕ → Image → Request →
 ByAccepted Plain files bytes image r status old new = IsPlainRun (asked_program r bytes image) files r.options.turns status old new
 ByAccepted Rewrite files bytes image r status old new =
     (status ≡ Done) × PutsText old.out (rewritten bytes image r.options.regions r.options.layout) true new.out × (new.err ≡ old.err)
-ByAccepted Run files bytes image r status old new = ⊥
-ByAccepted Trace files bytes image r status old new = ⊥
-ByAccepted Demo files bytes image r status old new = ⊥
-ByAccepted Replay files bytes image r status old new = ⊥
-ByAccepted Plan files bytes image r status old new = ⊥
+ByAccepted other files bytes image r status old new = ⊥
 
 -- a file that isn't accepted is refused
 abbrev pub ByProfile : Command → Result Image Refusal → Files → List ℕ → Request → Status → Outside → Outside → Type 0
 ByProfile c (Ok image) files bytes r status old new = ByAccepted c files bytes image r status old new
 ByProfile c (Err why) files bytes r status old new = (status ≡ Refused why) × Silent old new
 
+-- a file that was read, by the command
+abbrev pub ByBytes : Command → Files → List ℕ → Request → Status → Outside → Outside → Type 0
+ByBytes Run files bytes r status old new = ByOpened (λ file. AreFiles files → IsDefinedRun r bytes file files status old new) (asked_file r bytes) status old new
+ByBytes Trace files bytes r status old new = ByOpened (λ file. AreFiles files → IsDefinedTrace r bytes file files status old new) (asked_file r bytes) status old new
+ByBytes Plain files bytes r status old new = ByProfile Plain (profile bytes r.options.layout) files bytes r status old new
+ByBytes Rewrite files bytes r status old new = ByProfile Rewrite (profile bytes r.options.layout) files bytes r status old new
+ByBytes other files bytes r status old new = ⊥
+
 -- a file that is too long is refused unread
 abbrev pub BySize : Command → Bool → Files → List ℕ → Request → Status → Outside → Outside → Type 0
 BySize c true files bytes r status old new = (status ≡ Refused TooLong) × Silent old new
-BySize c false files bytes r status old new = ByProfile c (profile bytes r.options.layout) files bytes r status old new
+BySize c false files bytes r status old new = ByBytes c files bytes r status old new
 
 -- by whether there is such a file
 abbrev pub ByFile : Command → Option (List ℕ) → Files → Request → Status → Outside → Outside → Type 0
@@ -125,12 +174,17 @@ ByTraceFile c (Some bytes) r status old new = ByTraceSize c (nat_lt file_limit (
 
 -- ---- all commands
 
+-- a trace with the lines of uses isn't built yet
+abbrev pub ByUses : Bool → Files → Request → Status → Outside → Outside → Type 0
+ByUses true files r status old new = (status ≡ NotBuilt) × Untouched old new
+ByUses false files r status old new = ByFile Trace (files (image_name r)) files r status old new
+
 -- by the command
 abbrev pub ByCommand : Command → Files → Request → Status → Outside → Outside → Type 0
 ByCommand Plain files r status old new = ByFile Plain (files (image_name r)) files r status old new
 ByCommand Rewrite files r status old new = ByFile Rewrite (files (image_name r)) files r status old new
-ByCommand Run files r status old new = (status ≡ NotBuilt) × Untouched old new
-ByCommand Trace files r status old new = (status ≡ NotBuilt) × Untouched old new
+ByCommand Run files r status old new = ByFile Run (files (image_name r)) files r status old new
+ByCommand Trace files r status old new = ByUses r.options.uses files r status old new
 ByCommand Demo files r status old new = (status ≡ NotBuilt) × Untouched old new
 ByCommand Replay files r status old new = ByTraceFile Replay (files (image_name r)) r status old new
 ByCommand Plan files r status old new = ByTraceFile Plan (files (image_name r)) r status old new

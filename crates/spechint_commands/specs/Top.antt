@@ -1,9 +1,8 @@
 -- What the top call does, status by status (this project's own).
-use Rattle.std.specs.Prelude.{◌≡◌, ◌⊎◌, ℕ, ◌<◌, Bool, true, false, List, [], length, slice_index_or, Result, Ok, Err, MatchOption}
+use Rattle.std.specs.Prelude.{◌≡◌, ◌⊎◌, ℕ, ◌<◌, Bool, true, false, List, [], length, Ok, Err, MatchOption}
 use Rattle.world_io.specs.Outside.{StoreState, SinkState}
 use Rattle.world_io.specs.Texts.{PutsText}
 use Rattle.whole_file.specs.Reading.{ReadsWhole}
-use Rattle.whole_file.specs.declared.reading.ReadFault.{ReadFault}
 use Rattle.whole_file.specs.declared.reading.ReadFault.TheVariants as read
 use Rattle.elf_image.specs.declared.refusal.Refusal.{Refusal}
 use Rattle.elf_image.specs.declared.refusal.Refusal.TheVariants.{TooLong}
@@ -16,7 +15,6 @@ use Rattle.hart_step.specs.Core.{Core}
 use Rattle.program_loader.specs.Programs.{program_of}
 use Rattle.plain_runner.specs.Runs.{Outside, RunsTo}
 use Rattle.plain_runner.specs.declared.ending.Ending.{Ending}
-use Rattle.plain_runner.specs.declared.ending.Ending.TheVariants as ending
 use Rattle.rewriter.specs.Rewriting.{RewritesTo}
 use Rattle.rewriter.specs.declared.writing.Rewritten.{Rewritten}
 use Rattle.rewriter.specs.declared.writing.Rewritten.TheVariants as rewritten
@@ -33,63 +31,22 @@ use Rattle.fetch_plan.specs.Traces.{trace_needs, HasLeast}
 use Rattle.fetch_plan.specs.declared.traces.PlanTotals.{PlanTotals}
 use Rattle.spechint_commands.specs.Texts.{text_of}
 use Rattle.spechint_commands.specs.Lines.{replay_line, plan_line}
+use Rattle.spechint_commands.specs.Common.{Silent, Untouched, Stopped, ReadsFile, EndingStatus, image_name}
+use Rattle.spechint_commands.specs.Run.{RunTo, TraceTo}
 use Rattle.spechint_commands.specs.declared.status.Status.{Status}
 use Rattle.spechint_commands.specs.declared.status.Status.TheVariants.{Done, Exited, Trapped, TurnsOver, Usage, NotBuilt, Absent, Refused, BadLine, TooMany, StoreFault, SinkFault, NoMemory}
 
--- ---- reading the image or the trace
-
--- nothing was put
-abbrev pub Silent : Outside → Outside → Type 0
-Silent old new = (new.out ≡ old.out) × (new.err ≡ old.err)
-
--- nothing was asked of the store, and nothing put
-abbrev pub Untouched : Outside → Outside → Type 0
-Untouched old new = (new.store ≡ old.store) × Silent old new
-
--- the name of the image or the trace: the first word that a command acts on
-abbrev pub image_name : Request → List ℕ
-image_name r = slice_index_or r.arguments 0 []
-
--- the reading of the file: its bytes, or the status that the command ends with
-abbrev pub FileRead : Request → Result (List ℕ) Status → StoreState → StoreState → Type 0
-FileRead r (Ok bytes) old new = ReadsWhole old (image_name r) (Ok bytes) new
-FileRead r (Err Absent) old new = ReadsWhole old (image_name r) (Err read.Absent) new
-FileRead r (Err (Refused why)) old new = ReadsWhole old (image_name r) (Err read.TooLong) new × (why ≡ TooLong)
-FileRead r (Err StoreFault) old new = ReadsWhole old (image_name r) (Err read.Failed) new
-FileRead r (Err NoMemory) old new = ReadsWhole old (image_name r) (Err read.NoMemory) new
-FileRead r (Err other) old new = ⊥
-
--- the reading of the file came to a fault
-abbrev pub Stopped : Request → ReadFault → Outside → Outside → Type 0
-Stopped r fault old new = ReadsWhole old.store (image_name r) (Err fault) new.store × Silent old new
+-- ---- the command `plain`
 
 -- the file was read whole, and the profile refuses it
 abbrev pub IsRefused : Request → Refusal → Outside → Outside → Type 0
 IsRefused r refusal old new =
-    (bytes : List ℕ) × ReadsWhole old.store (image_name r) (Ok bytes) new.store × (profile bytes r.options.layout ≡ Err refusal) × Silent old new
+    (bytes : List ℕ) × ReadsFile r bytes old new × (profile bytes r.options.layout ≡ Err refusal) × Silent old new
 
 -- the file was read whole and is accepted, and there was no memory for its image
 abbrev pub IsStarved : Request → Outside → Outside → Type 0
 IsStarved r old new =
-    (bytes : List ℕ) × (image : Image) × ReadsWhole old.store (image_name r) (Ok bytes) new.store × (profile bytes r.options.layout ≡ Ok image) × Silent old new
-
--- ---- running it
-
--- a run's ending gives a status
-abbrev pub EndingStatus : Ending → Status → Type 0
-EndingStatus end (Exited code) = end ≡ ending.Exited code
-EndingStatus end (Trapped cause pc) = end ≡ ending.Trapped cause pc
-EndingStatus end (TurnsOver count) = end ≡ ending.TurnsOver count
-EndingStatus end StoreFault = end ≡ ending.StoreFault
-EndingStatus end SinkFault = end ≡ ending.SinkFault
-EndingStatus end NoMemory = end ≡ ending.NoMemory
-EndingStatus end Done = ⊥
-EndingStatus end Usage = ⊥
-EndingStatus end NotBuilt = ⊥
-EndingStatus end Absent = ⊥
-EndingStatus end (Refused why) = ⊥
-EndingStatus end (BadLine n) = ⊥
-EndingStatus end TooMany = ⊥
+    (bytes : List ℕ) × (image : Image) × ReadsFile r bytes old new × (profile bytes r.options.layout ≡ Ok image) × Silent old new
 
 -- a program ran, and its run ended so
 pub record Runs (p : Program) (turns : ℕ) (status : Status) (old new : Outside) : Type 0 where
@@ -117,8 +74,6 @@ pub record Accepted (r : Request) (status : Status) (old new : Outside) : Type 0
   pub accepted : profile bytes r.options.layout ≡ Ok image
   pub ran : Runs (asked_program r bytes image) r.options.turns status (record old { store = between }) new
 
--- ---- the command `plain`
-
 -- what a status says of the command `plain`
 abbrev pub PlainTo : Request → Status → Outside → Outside → Type 0
 PlainTo r (Exited code) old new = Accepted r (Exited code) old new
@@ -140,7 +95,7 @@ PlainTo r TooMany old new = ⊥
 -- the rewritten file of an accepted image was put on standard output, whole or up to a put that failed
 abbrev pub Rewrites : Request → Rewritten → Outside → Outside → Type 0
 Rewrites r answer old new =
-    (bytes : List ℕ) × ReadsWhole old.store (image_name r) (Ok bytes) new.store
+    (bytes : List ℕ) × ReadsFile r bytes old new
     × RewritesTo bytes r.options.regions r.options.layout answer old.out new.out × (new.err ≡ old.err)
 
 -- the status of an answer
@@ -168,17 +123,13 @@ RewriteTo r TooMany old new = ⊥
 
 -- ---- the commands `replay` and `plan`
 
--- the trace was read whole
-abbrev pub ReadsTrace : Request → List ℕ → Outside → Outside → Type 0
-ReadsTrace r bytes old new = ReadsWhole old.store (image_name r) (Ok bytes) new.store
-
 -- this line of the trace is its first bad one
 abbrev pub HasBadLine : Request → ℕ → Outside → Outside → Type 0
-HasBadLine r n old new = (bytes : List ℕ) × ReadsTrace r bytes old new × (trace_in bytes ≡ Err n) × Silent old new
+HasBadLine r n old new = (bytes : List ℕ) × ReadsFile r bytes old new × (trace_in bytes ≡ Err n) × Silent old new
 
 -- the trace was read whole, and there was no memory for what follows
 abbrev pub IsTraceStarved : Request → Outside → Outside → Type 0
-IsTraceStarved r old new = (bytes : List ℕ) × ReadsTrace r bytes old new × Silent old new
+IsTraceStarved r old new = (bytes : List ℕ) × ReadsFile r bytes old new × Silent old new
 
 -- a line was put on standard output, whole or up to a put that failed
 abbrev pub PutsLine : List ℕ → Bool → Outside → Outside → Type 0
@@ -191,7 +142,7 @@ settings_of r = record { blocks = r.options.blocks; depth = r.options.depth; eve
 -- the line with the totals of all lines of the trace was put
 abbrev pub Replays : Request → Bool → Outside → Outside → Type 0
 Replays r whole old new =
-    (bytes : List ℕ) × (totals : Totals) × ReadsTrace r bytes old new
+    (bytes : List ℕ) × (totals : Totals) × ReadsFile r bytes old new
     × (trace_totals (settings_of r) bytes ≡ Ok totals) × PutsLine (replay_line totals) whole old new
 
 -- what a status says of the command `replay`
@@ -213,13 +164,13 @@ ReplayTo r NotBuilt old new = ⊥
 -- the line with the least number of fetches for all needs of the trace was put: some plan costs it, and every other at least as much
 abbrev pub Plans : Request → Bool → Outside → Outside → Type 0
 Plans r whole old new =
-    (bytes : List ℕ) × (spots : List BlockSpot) × (totals : PlanTotals) × ReadsTrace r bytes old new
+    (bytes : List ℕ) × (spots : List BlockSpot) × (totals : PlanTotals) × ReadsFile r bytes old new
     × (trace_needs bytes ≡ Ok spots) × HasLeast r.options.blocks spots totals × PutsLine (plan_line totals r.options.blocks) whole old new
 
 -- all lines of the trace are good, and need more than 4,000,000 blocks
 abbrev pub HasTooMany : Request → Outside → Outside → Type 0
 HasTooMany r old new =
-    (bytes : List ℕ) × (spots : List BlockSpot) × ReadsTrace r bytes old new
+    (bytes : List ℕ) × (spots : List BlockSpot) × ReadsFile r bytes old new
     × (trace_needs bytes ≡ Ok spots) × (4_000_000 < length spots) × Silent old new
 
 -- what a status says of the command `plan`
@@ -244,8 +195,8 @@ PlanTo r NotBuilt old new = ⊥
 abbrev pub CommandTo : Command → Request → Status → Outside → Outside → Type 0
 CommandTo Plain r status old new = PlainTo r status old new
 CommandTo Rewrite r status old new = RewriteTo r status old new
-CommandTo Run r status old new = (status ≡ NotBuilt) × Untouched old new
-CommandTo Trace r status old new = (status ≡ NotBuilt) × Untouched old new
+CommandTo Run r status old new = RunTo r status old new
+CommandTo Trace r status old new = TraceTo r status old new
 CommandTo Demo r status old new = (status ≡ NotBuilt) × Untouched old new
 CommandTo Replay r status old new = ReplayTo r status old new
 CommandTo Plan r status old new = PlanTo r status old new

@@ -3,7 +3,7 @@
 ghost use Rattle.std.specs.Prelude.{◌≡◌, ◌≤◌, ◌<◌, ℕ, length, map, string_bytes, IfOk};
 ghost use Rattle.command_words.specs.Limits.{IsWithinLimits};
 ghost use Rattle.whole_file.specs.Reading.{mapped};
-ghost use Rattle.spechint_commands.specs.Top.{FileRead, image_name};
+ghost use Rattle.spechint_commands.specs.Common.{FileRead, image_name};
 
 use crate::status::Status;
 use command_words::Request;

@@ -3,14 +3,17 @@
 
 mod image;
 mod lines;
+mod opening;
 mod plain;
 mod plan;
 mod replay;
 mod rewrite;
+mod run;
 mod status;
 #[cfg(test)]
 mod tests;
 mod top;
+mod trace;
 
 pub use status::Status;
 pub use top::spechint;

@@ -4,29 +4,16 @@ ghost use Rattle.std.specs.Prelude.{◌≡◌, ℕ, ◌≤◌, ◌<◌, length, 
 ghost use Rattle.elf_image.specs.Image.{IsImage};
 ghost use Rattle.plain_runner.specs.Runs.{Outside};
 ghost use Rattle.command_words.specs.Limits.{IsWithinLimits};
-ghost use Rattle.spechint_commands.specs.Top.{PlainTo, RunsImage, EndingStatus};
+ghost use Rattle.spechint_commands.specs.Top.{PlainTo, RunsImage};
 
 use crate::image::read_file;
-use crate::status::Status;
+use crate::status::{Status, status_of};
 use command_words::Request;
 use elf_image::{Image, read_as};
-use plain_runner::{Ending, run};
+use plain_runner::run;
 use program_loader::load;
 use std::alloc::Global;
 use world_io::{Sink, Store};
-
-fn status_of(ending: Ending) -> Status
-    ensures { EndingStatus ending result }
-{
-    match ending {
-        Ending::Exited(code) => Status::Exited(code),
-        Ending::Trapped(cause, pc) => Status::Trapped(cause, pc),
-        Ending::TurnsOver(count) => Status::TurnsOver(count),
-        Ending::StoreFault => Status::StoreFault,
-        Ending::SinkFault => Status::SinkFault,
-        Ending::NoMemory => Status::NoMemory,
-    }
-}
 
 // Loads an accepted image and runs its program.
 fn run_image<D: Store, O: Sink, E: Sink>(

@@ -4,10 +4,12 @@ ghost use Rattle.std.specs.Prelude.{◌≡◌, false, ◌++◌, ◌≤◌, ◌<�
 ghost use Rattle.world_io.specs.Texts.{PutsText};
 ghost use Rattle.std.specs.Fmt.{digits, digit_glyph};
 ghost use Rattle.spechint_commands.specs.Texts.{code_of, opening, subject, joint, closing, detail, gap, reason, pc_of, count_of};
+ghost use Rattle.spechint_commands.specs.Common.{EndingStatus};
 ghost use Rattle.spechint_commands.specs.Top.{Tells};
 
 use elf_image::Refusal;
 use itoa::Buffer;
+use plain_runner::Ending;
 use spec_base::Trap;
 use trace_text::trap_text;
 use world_io::{Sink, put_all};
@@ -166,6 +168,20 @@ impl Status {
             Status::TurnsOver(_) => b" instructions\n",
             _ => b"\n",
         }
+    }
+}
+
+/// How a command ends whose program came to this ending.
+pub fn status_of(ending: Ending) -> Status
+    ensures { EndingStatus ending result }
+{
+    match ending {
+        Ending::Exited(code) => Status::Exited(code),
+        Ending::Trapped(cause, pc) => Status::Trapped(cause, pc),
+        Ending::TurnsOver(count) => Status::TurnsOver(count),
+        Ending::StoreFault => Status::StoreFault,
+        Ending::SinkFault => Status::SinkFault,
+        Ending::NoMemory => Status::NoMemory,
     }
 }
 

@@ -1,5 +1,7 @@
 //! The command `plain` over a store and two sinks in memory.
 
+mod run;
+
 use crate::status::Status;
 use crate::top::spechint;
 use elf_image::Refusal;
@@ -270,7 +272,7 @@ fn words_that_are_no_command_line_are_usage(rt: HostRuntime) -> Result<(), Fail>
         Status::Usage
     );
     assert_eq!(rt;
-        command(alloc, &["trace", "w1"], &none, b"", &[], &[])?.status,
+        command(alloc, &["trace", "--uses", "w1"], &none, b"", &[], &[])?.status,
         Status::NotBuilt
     );
     Ok(())
