@@ -1,5 +1,5 @@
 -- The moves of a repeated pattern that are still to come (this project's own).
-use Rattle.std.specs.Prelude.{ℕ, ◌≤◌, List, [], ◌∷◌, ◌++◌, replicate, length, All}
+use Rattle.std.specs.Prelude.{ℕ, ◌≤◌, List, [], ◌∷◌, length, All}
 use Rattle.spec_base.specs.declared.note.Move.{Move}
 use Rattle.run_model.specs.Patterns.{Pattern, one_round, rounds}
 

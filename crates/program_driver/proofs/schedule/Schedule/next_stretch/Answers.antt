@@ -1,4 +1,4 @@
-use Rattle.std.proofs.Common.{◌≡◌, ◌∙◌, ◌-◌, List, ◌++◌, sym, subst, arith}
+use Rattle.std.proofs.Common.{◌≡◌, ◌∙◌, ◌-◌, ◌++◌, sym, subst, arith}
 use Rattle.std.specs.Prelude.{replicate}
 use Rattle.program_driver.specs.Rounds.{moves_from}
 use Rattle.program_driver.proofs.Rounding.{next-whole, next-cut, next-HasMoves}
