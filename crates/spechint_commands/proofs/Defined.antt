@@ -24,12 +24,14 @@ use Rattle.command_words.specs.declared.request.Request.{Request}
 use Rattle.plain_runner.specs.Runs.{Outside, EndsBy, Agrees, FailedPuts}
 use Rattle.plain_runner.specs.declared.ending.Ending.{Ending}
 use Rattle.plain_runner.specs.declared.ending.Ending.TheVariants as ending
-use Rattle.run_model.specs.Moves.{run}
+use Rattle.run_model.specs.Run.{World}
+use Rattle.run_model.specs.Moves.{Moves, run}
 use Rattle.run_promises.specs.Promises.{IsAsPlain}
 use Rattle.file_world.specs.Worlds.{AreFiles}
 use Rattle.file_runs.specs.Runs.{run_world, plain_program, RunsAreAsPlain}
-use Rattle.program_driver.specs.Lines.{LinesTo, ending_with}
+use Rattle.program_driver.specs.Lines.{ArePut, LinesTo, ending_with, fault_ending}
 use Rattle.program_driver.specs.Runs.{report_lines, is_reported}
+use Rattle.program_driver.specs.Traces.{TellsTo, all, in_move, at_turns, all_lines, over_bottomless}
 use Rattle.program_driver.specs.declared.lines.LineFault.{LineFault}
 use Rattle.program_driver.specs.declared.lines.LineFault.TheVariants.{Sink}
 use Rattle.program_driver.specs.declared.lines.LineFault.TheVariants as line
@@ -45,15 +47,15 @@ use Rattle.fetch_plan.specs.Traces.{needs_by, HasLeast}
 use Rattle.fetch_plan.specs.declared.traces.PlanTotals.{PlanTotals}
 use Rattle.spechint_commands.specs.Texts.{text_of}
 use Rattle.spechint_commands.specs.Lines.{replay_line, plan_line}
-use Rattle.spechint_commands.specs.Run.{Ran, RunTo}
+use Rattle.spechint_commands.specs.Run.{asked_file, Going, Ran, ImageTo, RunGoes, TraceGoes, RunTo, TraceBy}
 use Rattle.spechint_commands.specs.Common.{Silent, Stopped, EndingStatus, ReadsFile, image_name}
 use Rattle.spechint_commands.specs.Top.{Runs, Accepted, PlainTo, Rewrites, RewriteTo, PutsLine, settings_of, ReplayTo, PlanTo, CommandTo, IsOutcome}
-use Rattle.spechint_commands.specs.Defined.{EndsAs, IsPlainRun, IsEnd, IsDefinedRun, ByOpened, ByBytes, ByProfile, BySize, ByFile, ByReplayed, ByNeeds, ByPlanned, ByTrace, ByTraceSize, ByTraceFile, ByCommand, ByRequest, IsDefined, IsSteady}
+use Rattle.spechint_commands.specs.Defined.{EndsAs, IsPlainRun, IsEnd, IsDefinedRun, IsDefinedTrace, ByOpened, ByUses, ByBytes, ByProfile, BySize, ByFile, ByReplayed, ByNeeds, ByPlanned, ByTrace, ByTraceSize, ByTraceFile, ByCommand, ByRequest, IsDefined, IsSteady}
 use Rattle.spechint_commands.specs.declared.status.Status.{Status}
 use Rattle.spechint_commands.specs.declared.status.Status.TheVariants.{Done, Exited, Trapped, TurnsOver, Usage, NotBuilt, Absent, Refused, BadLine, TooMany, StoreFault, SinkFault, NoMemory}
 use Rattle.runner.specs.Causes.{SinkRose}
 use Rattle.spechint_commands.proofs.AsPlain.{as_plain-store}
-use Rattle.spechint_commands.proofs.Causes.{ByMemory, failed_read, failed_run, put_failed, ran-Rose, ran-SinkRose}
+use Rattle.spechint_commands.proofs.Causes.{ByMemory, failed_read, failed_run, put_failed, image_store_fault, ran-SinkRose}
 
 -- ---- runs
 
@@ -214,28 +216,32 @@ by_rewrite r files TooMany old new e h s o = absurd h
 
 -- ---- `run`
 
--- where a program came to its end the lines behind it were put whole
+-- a program that came to its end met no fault of a line
+never_fault : (fault : LineFault) (end : Ending) (status : Status) → IsEnd status → EndingStatus end status → end ≡ fault_ending fault → ⊥
+never_fault Sink end status is gives same = by_end status is (subst (λ e. EndingStatus e status) same gives)
+  where
+    by_end : (s : Status) → IsEnd s → EndingStatus ending.SinkFault s → ⊥
+    by_end (Exited code) is gives = (let bad = gives in cc)
+    by_end (Trapped cause pc) is gives = (let bad = gives in cc)
+    by_end (TurnsOver count) is gives = (let bad = gives in cc)
+    by_end _ is gives = is
+never_fault line.NoMemory end status is gives same = by_end status is (subst (λ e. EndingStatus e status) same gives)
+  where
+    by_end : (s : Status) → IsEnd s → EndingStatus ending.NoMemory s → ⊥
+    by_end (Exited code) is gives = (let bad = gives in cc)
+    by_end (Trapped cause pc) is gives = (let bad = gives in cc)
+    by_end (TurnsOver count) is gives = (let bad = gives in cc)
+    by_end _ is gives = is
+
+-- so the lines behind it were put whole
 whole_lines : (reached end : Ending) (answer : Result (Unit {0}) LineFault) (status : Status) → IsEnd status → EndingStatus end status → end ≡ ending_with reached answer
     → (done : Unit {0}) × (answer ≡ Ok done)
 whole_lines reached end (Ok done) status is gives same = (done, refl)
-whole_lines reached end (Err Sink) status is gives same = absurd (never status is (subst (λ e. EndingStatus e status) same gives))
-  where
-    never : (s : Status) → IsEnd s → EndingStatus ending.SinkFault s → ⊥
-    never (Exited code) is gives = (let bad = gives in cc)
-    never (Trapped cause pc) is gives = (let bad = gives in cc)
-    never (TurnsOver count) is gives = (let bad = gives in cc)
-    never _ is gives = is
-whole_lines reached end (Err line.NoMemory) status is gives same = absurd (never status is (subst (λ e. EndingStatus e status) same gives))
-  where
-    never : (s : Status) → IsEnd s → EndingStatus ending.NoMemory s → ⊥
-    never (Exited code) is gives = (let bad = gives in cc)
-    never (Trapped cause pc) is gives = (let bad = gives in cc)
-    never (TurnsOver count) is gives = (let bad = gives in cc)
-    never _ is gives = is
+whole_lines reached end (Err fault) status is gives same = absurd (never_fault fault end status is gives same)
 
 -- a run over files that are told, which came to its end
-defined_run : RunsAreAsPlain → (r : Request) (files : Files) (status : Status) (old new : Outside) → old.store.files ≡ Some files → IsEnd status → (a : Ran r status old new) → AreFiles files
-    → IsDefinedRun r a.bytes a.file files status old new
+defined_run : RunsAreAsPlain → (r : Request) (files : Files) (status : Status) (old new : Outside) → old.store.files ≡ Some files → IsEnd status → (a : Ran (RunGoes r) r status old new)
+    → AreFiles files → IsDefinedRun r a.bytes a.file files status old new
 defined_run law r files status old new e end a are =
     let to = a.went files are (a.told files e) in
     let whole = whole_lines to.reached a.ending to.answer status end a.gives to.ends in
@@ -252,34 +258,77 @@ defined_run law r files status old new e end a are =
       reports = subst (λ l. LinesTo (report_lines (is_reported r.options.report to.reached) (run (run_world a.file r.arguments files) a.moves)) l to.between new.err) whole.1 to.reports;
     }
 
--- a rewritten program came to its end
-ran_to_end : RunsAreAsPlain → (r : Request) (files : Files) (status : Status) (old new : Outside) → old.store.files ≡ Some files → IsEnd status → Ran r status old new
-    → ByFile Run (files (image_name r)) files r status old new
-ran_to_end law r files status old new e end a =
-    let told = told_of old.store a.between (image_name r) (Ok a.bytes) files e a.read in
-    judged Run r files a.bytes status old new told.0 told.1
-    (subst (λ v. ByOpened v files a.bytes r status old new) (sym a.opens) (end, λ are. defined_run law r files status old new e end a are))
+-- all lines of a trace were put
+whole_trace : (w : World) (ms : Moves) (reached end : Ending) (old new : SinkState) (status : Status) → IsEnd status → EndingStatus end status → TellsTo w ms reached end old new
+    → (end ≡ reached) × ArePut old (all_lines w ms reached) new
+whole_trace w ms reached end old new status is gives (all same puts) = (same, puts)
+whole_trace w ms reached end old new status is gives (in_move fault front m between same made puts some) = absurd (never_fault fault end status is gives same)
+whole_trace w ms reached end old new status is gives (at_turns fault between same puts some) = absurd (never_fault fault end status is gives same)
 
--- `run`, status by status
+-- a trace over files that are told, whose run came to its end
+defined_trace : RunsAreAsPlain → (r : Request) (files : Files) (status : Status) (old new : Outside) → old.store.files ≡ Some files → IsEnd status → (a : Ran (TraceGoes r) r status old new)
+    → AreFiles files → IsDefinedTrace r a.bytes a.file files status old new
+defined_trace law r files status old new e end a are =
+    let to = a.went files are (a.told files e) in
+    let lines = whole_trace (run_world a.file r.arguments files) a.moves to.reached a.ending old.out new.out status end a.gives to.out in
+    record {
+      ending = to.reached;
+      gives = subst (λ e. EndingStatus e status) lines.0 a.gives;
+      moves = a.moves;
+      made = to.moves.made;
+      as_plain = as_plain-store (plain_program r.options.layout a.bytes r.arguments) files to.reached a.between (over_bottomless old.store) (over_bottomless new.store)
+          (law r.options.regions r.options.layout a.bytes a.file r.arguments files (a.is_run files are) r.options.pattern r.options.turns to.reached a.moves
+          (over_bottomless a.between) (over_bottomless new.store) to.moves);
+      lines = lines.1;
+      err = to.err;
+    }
+
+-- a file that is executed, by what the command says of its bytes
+module _ (c : Command) (go : Going) (r : Request) (files : Files) (ends : Status → Outside → Outside → List ℕ → List ℕ → Type 0)
+    (says : (status : Status) (old new : Outside) (bytes : List ℕ) → ByOpened (ends status old new bytes) (asked_file r bytes) status old new → ByBytes c files bytes r status old new) where
+  -- its program came to its end
+  ran_to_end : (status : Status) (old new : Outside) → old.store.files ≡ Some files → IsEnd status → (a : Ran go r status old new) → ends status old new a.bytes a.file
+      → ByFile c (files (image_name r)) files r status old new
+  ran_to_end status old new e end a is =
+      let told = told_of old.store a.between (image_name r) (Ok a.bytes) files e a.read in
+      judged c r files a.bytes status old new told.0 told.1
+      (says status old new a.bytes (subst (λ v. ByOpened (ends status old new a.bytes) v status old new) (sym a.opens) (end, is)))
+
+  -- status by status
+  by_image : (status : Status) (old new : Outside) → old.store.files ≡ Some files → (IsEnd status → (a : Ran go r status old new) → ends status old new a.bytes a.file)
+      → ImageTo go r status old new → Steady old.store.faults new.store.faults → Steady old.out.faults new.out.faults → Steady old.err.faults new.err.faults
+      → (status ≡ NoMemory) ⊎ ByFile c (files (image_name r)) files r status old new
+  by_image (Exited code) old new e is a s o w = inr (ran_to_end (Exited code) old new e tt a (is tt a))
+  by_image (Trapped cause pc) old new e is a s o w = inr (ran_to_end (Trapped cause pc) old new e tt a (is tt a))
+  by_image (TurnsOver count) old new e is a s o w = inr (ran_to_end (TurnsOver count) old new e tt a (is tt a))
+  by_image Absent old new e is h s o w = inr (absent c r files old new e h)
+  by_image (Refused why) old new e is (inl (stopped, long)) s o w = inr (refused_unread c r files why old new e stopped long)
+  by_image (Refused why) old new e is (inr (bytes, whole, verdict, silent)) s o w =
+      inr (judged_refused c r files why bytes old new e whole
+      (says (Refused why) old new bytes (subst (λ v. ByOpened (ends (Refused why) old new bytes) v (Refused why) old new) (sym verdict) (refl, silent))))
+  by_image StoreFault old new e is h s o w = absurd (clash old.store.faults new.store.faults (image_store_fault go r old new h) s)
+  by_image SinkFault old new e is a s o w = absurd (no_sink_fault old new (ran-SinkRose go r old new a) o w)
+  by_image NoMemory old new e is h s o w = inl refl
+  by_image Done old new e is h s o w = absurd h
+  by_image Usage old new e is h s o w = absurd h
+  by_image NotBuilt old new e is h s o w = absurd h
+  by_image (BadLine number) old new e is h s o w = absurd h
+  by_image TooMany old new e is h s o w = absurd h
+
 by_run : RunsAreAsPlain → (r : Request) (files : Files) (status : Status) (old new : Outside) → old.store.files ≡ Some files → RunTo r status old new
     → Steady old.store.faults new.store.faults → Steady old.out.faults new.out.faults → Steady old.err.faults new.err.faults
     → (status ≡ NoMemory) ⊎ ByFile Run (files (image_name r)) files r status old new
-by_run law r files (Exited c) old new e h s o w = inr (ran_to_end law r files (Exited c) old new e tt h)
-by_run law r files (Trapped t pc) old new e h s o w = inr (ran_to_end law r files (Trapped t pc) old new e tt h)
-by_run law r files (TurnsOver count) old new e h s o w = inr (ran_to_end law r files (TurnsOver count) old new e tt h)
-by_run law r files Absent old new e h s o w = inr (absent Run r files old new e h)
-by_run law r files (Refused why) old new e (inl (stopped, long)) s o w = inr (refused_unread Run r files why old new e stopped long)
-by_run law r files (Refused why) old new e (inr (bytes, whole, verdict, silent)) s o w =
-    inr (judged_refused Run r files why bytes old new e whole (subst (λ v. ByOpened v files bytes r (Refused why) old new) (sym verdict) (refl, silent)))
-by_run law r files StoreFault old new e (inl stopped) s o w = absurd (clash old.store.faults new.store.faults (failed_read old.store new.store (image_name r) stopped.0) s)
-by_run law r files StoreFault old new e (inr a) s o w = absurd (clash old.store.faults new.store.faults (ran-Rose r old new a) s)
-by_run law r files SinkFault old new e a s o w = absurd (no_sink_fault old new (ran-SinkRose r old new a) o w)
-by_run law r files NoMemory old new e h s o w = inl refl
-by_run law r files Done old new e h s o w = absurd h
-by_run law r files Usage old new e h s o w = absurd h
-by_run law r files NotBuilt old new e h s o w = absurd h
-by_run law r files (BadLine number) old new e h s o w = absurd h
-by_run law r files TooMany old new e h s o w = absurd h
+by_run law r files status old new e h s o w =
+    by_image Run (RunGoes r) r files (λ status old new bytes file. AreFiles files → IsDefinedRun r bytes file files status old new) (λ status old new bytes by. by)
+    status old new e (λ end a. defined_run law r files status old new e end a) h s o w
+
+by_uses : RunsAreAsPlain → (uses : Bool) (r : Request) (files : Files) (status : Status) (old new : Outside) → old.store.files ≡ Some files → TraceBy uses r status old new
+    → Steady old.store.faults new.store.faults → Steady old.out.faults new.out.faults → Steady old.err.faults new.err.faults
+    → (status ≡ NoMemory) ⊎ ByUses uses files r status old new
+by_uses law true r files status old new e h s o w = inr h
+by_uses law false r files status old new e h s o w =
+    by_image Trace (TraceGoes r) r files (λ status old new bytes file. AreFiles files → IsDefinedTrace r bytes file files status old new) (λ status old new bytes by. by)
+    status old new e (λ end a. defined_trace law r files status old new e end a) h s o w
 
 -- ---- traces
 
@@ -386,7 +435,7 @@ by_command : RunsAreAsPlain → (c : Command) (r : Request) (files : Files) (sta
 by_command law Plain r files status old new e h s o w = by_status r files status old new e h s o w
 by_command law Rewrite r files status old new e h s o w = by_rewrite r files status old new e h s o
 by_command law Run r files status old new e h s o w = by_run law r files status old new e h s o w
-by_command law Trace r files status old new e h s o w = inr h
+by_command law Trace r files status old new e h s o w = by_uses law r.options.uses r files status old new e h s o w
 by_command law Demo r files status old new e h s o w = inr h
 by_command law Replay r files status old new e h s o w = by_replay r files status old new e h s o
 by_command law Plan r files status old new e h s o w = by_plan r files status old new e h s o
@@ -420,24 +469,28 @@ later_err r (BadLine number) old new h = absurd h
 later_err r TooMany old new h = absurd h
 
 -- nor does a run of a rewritten program
-run_err : (r : Request) (status : Status) (old new : Outside) → RunTo r status old new → old.err.faults ≤ new.err.faults
-run_err r (Exited c) old new a = a.later.err
-run_err r (Trapped t pc) old new a = a.later.err
-run_err r (TurnsOver count) old new a = a.later.err
-run_err r SinkFault old new a = a.later.err
-run_err r Absent old new h = silent_err old new h.1
-run_err r StoreFault old new (inl stopped) = silent_err old new stopped.1
-run_err r StoreFault old new (inr a) = a.later.err
-run_err r (Refused why) old new (inl (stopped, long)) = silent_err old new stopped.1
-run_err r (Refused why) old new (inr (bytes, whole, verdict, silent)) = silent_err old new silent
-run_err r NoMemory old new (inl (inl stopped)) = silent_err old new stopped.1
-run_err r NoMemory old new (inl (inr (bytes, whole, may, silent))) = silent_err old new silent
-run_err r NoMemory old new (inr a) = a.later.err
-run_err r Done old new h = absurd h
-run_err r Usage old new h = absurd h
-run_err r NotBuilt old new h = absurd h
-run_err r (BadLine number) old new h = absurd h
-run_err r TooMany old new h = absurd h
+image_err : (go : Going) (r : Request) (status : Status) (old new : Outside) → ImageTo go r status old new → old.err.faults ≤ new.err.faults
+image_err go r (Exited c) old new a = a.later.err
+image_err go r (Trapped t pc) old new a = a.later.err
+image_err go r (TurnsOver count) old new a = a.later.err
+image_err go r SinkFault old new a = a.later.err
+image_err go r Absent old new h = silent_err old new h.1
+image_err go r StoreFault old new (inl stopped) = silent_err old new stopped.1
+image_err go r StoreFault old new (inr a) = a.later.err
+image_err go r (Refused why) old new (inl (stopped, long)) = silent_err old new stopped.1
+image_err go r (Refused why) old new (inr (bytes, whole, verdict, silent)) = silent_err old new silent
+image_err go r NoMemory old new (inl (inl stopped)) = silent_err old new stopped.1
+image_err go r NoMemory old new (inl (inr (bytes, whole, may, silent))) = silent_err old new silent
+image_err go r NoMemory old new (inr a) = a.later.err
+image_err go r Done old new h = absurd h
+image_err go r Usage old new h = absurd h
+image_err go r NotBuilt old new h = absurd h
+image_err go r (BadLine number) old new h = absurd h
+image_err go r TooMany old new h = absurd h
+
+trace_err : (uses : Bool) (r : Request) (status : Status) (old new : Outside) → TraceBy uses r status old new → old.err.faults ≤ new.err.faults
+trace_err true r status old new h = silent_err old new h.1.1
+trace_err false r status old new h = image_err (TraceGoes r) r status old new h
 
 -- rewriting puts nothing on standard error
 rewrite_err : (r : Request) (status : Status) (old new : Outside) → RewriteTo r status old new → new.err ≡ old.err
@@ -494,8 +547,8 @@ plan_err r NotBuilt old new h = absurd h
 later_in : (c : Command) (r : Request) (status : Status) (old new : Outside) → CommandTo c r status old new → old.err.faults ≤ new.err.faults
 later_in Plain r status old new h = later_err r status old new h
 later_in Rewrite r status old new h = (let same = ap (λ s. s.faults) (rewrite_err r status old new h) in omega arith)
-later_in Run r status old new h = run_err r status old new h
-later_in Trace r status old new h = silent_err old new h.1.1
+later_in Run r status old new h = image_err (RunGoes r) r status old new h
+later_in Trace r status old new h = trace_err r.options.uses r status old new h
 later_in Demo r status old new h = silent_err old new h.1.1
 later_in Replay r status old new h = (let same = ap (λ s. s.faults) (replay_err r status old new h) in omega arith)
 later_in Plan r status old new h = (let same = ap (λ s. s.faults) (plan_err r status old new h) in omega arith)

@@ -1,6 +1,6 @@
 mod Digits
 mod Outcomes
-mod Opening
+mod Opens
 mod Running
 mod AsPlain
 mod Causes

@@ -16,6 +16,7 @@ use Rattle.file_world.specs.Worlds.{AreFiles}
 use Rattle.file_runs.specs.Runs.{run_world, plain_program}
 use Rattle.program_driver.specs.Lines.{ArePut}
 use Rattle.program_driver.specs.Runs.{report_lines, is_reported}
+use Rattle.program_driver.specs.Traces.{over_bottomless, all_lines}
 use Rattle.program_model.specs.PlainRun.{State, Image as Program, Taken, plain_state, TrapsAt, end_of}
 use Rattle.plain_runner.specs.Runs.{Outside, Agrees, output_of}
 use Rattle.plain_runner.specs.declared.ending.Ending.{Ending}
@@ -71,7 +72,7 @@ pub record IsPlainRun (p : Program) (files : Files) (turns : ℕ) (status : Stat
   pub out_log : SinkLog old.out outs None new.out
   pub err_log : SinkLog old.err errs None new.err
 
--- ---- the command `run`
+-- ---- the commands `run` and `trace`
 
 -- an exit, a trap, or the end of the turns
 abbrev pub IsEnd : Status → Type 0
@@ -90,10 +91,20 @@ pub record IsDefinedRun (r : Request) (bytes file : List ℕ) (files : Files) (s
   pub as_plain : IsAsPlain (plain_program r.options.layout bytes r.arguments) files ending old (record new { err = behind })
   pub reports : ArePut behind (report_lines (is_reported r.options.report ending) (run (run_world file r.arguments files) moves)) new.err
 
--- what a file comes to: it is refused, or its program comes to an end, which is the defined one if files are as files are
-abbrev pub ByOpened : Result (List ℕ) Refusal → Files → List ℕ → Request → Status → Outside → Outside → Type 0
-ByOpened (Ok file) files bytes r status old new = IsEnd status × (AreFiles files → IsDefinedRun r bytes file files status old new)
-ByOpened (Err why) files bytes r status old new = (status ≡ Refused why) × Silent old new
+-- and of a trace: the lines of all that the moves tell were put, and the line of the turns where all were made
+pub record IsDefinedTrace (r : Request) (bytes file : List ℕ) (files : Files) (status : Status) (old new : Outside) : Type 0 where
+  pub ending : Ending
+  pub gives : EndingStatus ending status
+  pub moves : Moves
+  pub made : AreMade (run_world file r.arguments files) r.options.pattern r.options.turns moves
+  pub as_plain : IsAsPlain (plain_program r.options.layout bytes r.arguments) files ending (over_bottomless old.store) (over_bottomless new.store)
+  pub lines : ArePut old.out (all_lines (run_world file r.arguments files) moves ending) new.out
+  pub err : new.err ≡ old.err
+
+-- what a file comes to: it is refused, or the program of the file that is executed comes to an end
+abbrev pub ByOpened : (List ℕ → Type 0) → Result (List ℕ) Refusal → Status → Outside → Outside → Type 0
+ByOpened ends (Ok file) status old new = IsEnd status × ends file
+ByOpened ends (Err why) status old new = (status ≡ Refused why) × Silent old new
 
 -- ---- commands
 
@@ -111,7 +122,8 @@ ByProfile c (Err why) files bytes r status old new = (status ≡ Refused why) ×
 
 -- a file that was read, by the command
 abbrev pub ByBytes : Command → Files → List ℕ → Request → Status → Outside → Outside → Type 0
-ByBytes Run files bytes r status old new = ByOpened (asked_file r bytes) files bytes r status old new
+ByBytes Run files bytes r status old new = ByOpened (λ file. AreFiles files → IsDefinedRun r bytes file files status old new) (asked_file r bytes) status old new
+ByBytes Trace files bytes r status old new = ByOpened (λ file. AreFiles files → IsDefinedTrace r bytes file files status old new) (asked_file r bytes) status old new
 ByBytes Plain files bytes r status old new = ByProfile Plain (profile bytes r.options.layout) files bytes r status old new
 ByBytes Rewrite files bytes r status old new = ByProfile Rewrite (profile bytes r.options.layout) files bytes r status old new
 ByBytes other files bytes r status old new = ⊥
@@ -162,12 +174,17 @@ ByTraceFile c (Some bytes) r status old new = ByTraceSize c (nat_lt file_limit (
 
 -- ---- all commands
 
+-- a trace with the lines of uses isn't built yet
+abbrev pub ByUses : Bool → Files → Request → Status → Outside → Outside → Type 0
+ByUses true files r status old new = (status ≡ NotBuilt) × Untouched old new
+ByUses false files r status old new = ByFile Trace (files (image_name r)) files r status old new
+
 -- by the command
 abbrev pub ByCommand : Command → Files → Request → Status → Outside → Outside → Type 0
 ByCommand Plain files r status old new = ByFile Plain (files (image_name r)) files r status old new
 ByCommand Rewrite files r status old new = ByFile Rewrite (files (image_name r)) files r status old new
 ByCommand Run files r status old new = ByFile Run (files (image_name r)) files r status old new
-ByCommand Trace files r status old new = (status ≡ NotBuilt) × Untouched old new
+ByCommand Trace files r status old new = ByUses r.options.uses files r status old new
 ByCommand Demo files r status old new = (status ≡ NotBuilt) × Untouched old new
 ByCommand Replay files r status old new = ByTraceFile Replay (files (image_name r)) r status old new
 ByCommand Plan files r status old new = ByTraceFile Plan (files (image_name r)) r status old new

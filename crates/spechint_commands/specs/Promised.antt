@@ -1,5 +1,5 @@
--- What a user of `run` may rely on: the program does as by itself, its shadow is bounded and its hints are true, and it gets on (this project's own).
-use Rattle.std.specs.Prelude.{◌≡◌, ◌⊎◌, ℕ, List, Some, Ok, Result, IfSome}
+-- What a user of `run` and `trace` may rely on: the program does as by itself, its shadow is bounded and its hints are true, and it gets on (this project's own).
+use Rattle.std.specs.Prelude.{◌≡◌, ◌⊎◌, ℕ, Bool, true, false, List, Some, Ok, Result, IfSome}
 use Rattle.spec_base.specs.Files.{Files}
 use Rattle.world_io.specs.Outside.{StoreState, SinkState, Endless}
 use Rattle.whole_file.specs.Reading.{ReadsWhole}
@@ -13,9 +13,11 @@ use Rattle.file_runs.specs.Runs.{run_world, plain_program}
 use Rattle.runner_parts.specs.Heard.{Said, AreTrueOf}
 use Rattle.program_driver.specs.Lines.{LinesTo, ending_with}
 use Rattle.program_driver.specs.Runs.{report_lines, is_reported}
+use Rattle.program_driver.specs.Traces.{TellsTo, over_bottomless}
 use Rattle.program_driver.specs.declared.lines.LineFault.{LineFault}
 use Rattle.command_words.specs.CommandLine.{command_of}
-use Rattle.command_words.specs.declared.command.Command.TheVariants.{Run}
+use Rattle.command_words.specs.declared.command.Command.{Command}
+use Rattle.command_words.specs.declared.command.Command.TheVariants.{Run, Trace}
 use Rattle.command_words.specs.declared.request.Request.{Request}
 use Rattle.spechint_commands.specs.Common.{EndingStatus, image_name}
 use Rattle.spechint_commands.specs.Run.{asked_file}
@@ -41,8 +43,25 @@ pub record IsKept (r : Request) (bytes file : List ℕ) (moves : Moves) (files :
   pub gets_on : GetsOn r.options.pattern r.options.turns reached
   pub finishes : old.out.room ≡ Endless → old.err.room ≡ Endless → Finishes (plain_program r.options.layout bytes r.arguments) files r.options.pattern r.options.turns reached
 
--- a file was read and opened, and so it was over all files of which what the store said is true. Those that it tells are among them
-pub record KeepsPromises (r : Request) (status : Status) (old new : Outside) : Type 0 where
+-- the same of a trace, in which each put of the program is taken whole. Standard output has the lines of what the moves tell, up to one that stopped, and standard error the text of the status alone
+pub record IsTraceKept (r : Request) (bytes file : List ℕ) (moves : Moves) (files : Files) (status : Status) (old new : Outside) : Type 0 where
+  pub reached : Ending
+  pub ending : Ending
+  pub made : AreMade (run_world file r.arguments files) r.options.pattern r.options.turns moves
+  pub as_plain : IsAsPlain (plain_program r.options.layout bytes r.arguments) files reached (over_bottomless old.store) (over_bottomless new.store)
+  pub lines : TellsTo (run_world file r.arguments files) moves reached ending old.out new.out
+  pub tells : Tells status (image_name r) old.err new.err
+  pub gives : EndingStatus ending status
+  pub keeps : Keeps (run_world file r.arguments files) moves
+  pub gets_on : GetsOn r.options.pattern r.options.turns reached
+  pub finishes : Finishes (plain_program r.options.layout bytes r.arguments) files r.options.pattern r.options.turns reached
+
+-- what is promised of a file's bytes, the file that is executed, its moves, and files
+abbrev pub Promise : Type 1
+Promise = List ℕ → List ℕ → Moves → Files → Type 0
+
+-- a file was read and opened, and the promise was kept over all files of which what the store said is true. Those that it tells are among them
+pub record KeepsPromise (promise : Promise) (r : Request) (old : Outside) : Type 0 where
   pub bytes : List ℕ
   pub file : List ℕ
   pub between : StoreState
@@ -51,28 +70,39 @@ pub record KeepsPromises (r : Request) (status : Status) (old new : Outside) : T
   pub read : ReadsWhole old.store (image_name r) (Ok bytes) between
   pub opens : asked_file r bytes ≡ Ok file
   pub told : (files : Files) → old.store.files ≡ Some files → AreTrueOf files said
-  pub kept : (files : Files) → AreFiles files → AreTrueOf files said → IsKept r bytes file moves files status old new
+  pub kept : (files : Files) → AreFiles files → AreTrueOf files said → promise bytes file moves files
 
 -- nothing was put but the text of the status
 abbrev pub PutsTextAlone : Request → Status → Outside → Outside → Type 0
 PutsTextAlone r status old new = (new.out ≡ old.out) × Tells status (image_name r) old.err new.err
 
 -- what may be relied on, by the status. A fault of the store and want of memory come where nothing ran, too
-abbrev pub RunPromises : Request → Status → Outside → Outside → Type 0
-RunPromises r (Exited code) old new = KeepsPromises r (Exited code) old new
-RunPromises r (Trapped cause pc) old new = KeepsPromises r (Trapped cause pc) old new
-RunPromises r (TurnsOver count) old new = KeepsPromises r (TurnsOver count) old new
-RunPromises r SinkFault old new = KeepsPromises r SinkFault old new
-RunPromises r StoreFault old new = PutsTextAlone r StoreFault old new ⊎ KeepsPromises r StoreFault old new
-RunPromises r NoMemory old new = PutsTextAlone r NoMemory old new ⊎ KeepsPromises r NoMemory old new
-RunPromises r Absent old new = PutsTextAlone r Absent old new
-RunPromises r (Refused why) old new = PutsTextAlone r (Refused why) old new
-RunPromises r Done old new = ⊥
-RunPromises r Usage old new = ⊥
-RunPromises r NotBuilt old new = ⊥
-RunPromises r (BadLine n) old new = ⊥
-RunPromises r TooMany old new = ⊥
+abbrev pub ImagePromises : (Status → Promise) → Request → Status → Outside → Outside → Type 0
+ImagePromises promise r (Exited code) old new = KeepsPromise (promise (Exited code)) r old
+ImagePromises promise r (Trapped cause pc) old new = KeepsPromise (promise (Trapped cause pc)) r old
+ImagePromises promise r (TurnsOver count) old new = KeepsPromise (promise (TurnsOver count)) r old
+ImagePromises promise r SinkFault old new = KeepsPromise (promise SinkFault) r old
+ImagePromises promise r StoreFault old new = PutsTextAlone r StoreFault old new ⊎ KeepsPromise (promise StoreFault) r old
+ImagePromises promise r NoMemory old new = PutsTextAlone r NoMemory old new ⊎ KeepsPromise (promise NoMemory) r old
+ImagePromises promise r Absent old new = PutsTextAlone r Absent old new
+ImagePromises promise r (Refused why) old new = PutsTextAlone r (Refused why) old new
+ImagePromises promise r Done old new = ⊥
+ImagePromises promise r Usage old new = ⊥
+ImagePromises promise r NotBuilt old new = ⊥
+ImagePromises promise r (BadLine n) old new = ⊥
+ImagePromises promise r TooMany old new = ⊥
 
--- where the words ask for a run
-abbrev pub IfRun : List (List ℕ) → (Request → Type 0) → Type 0
-IfRun words P = IfSome (command_of words) (λ r. r.command ≡ Run → P r)
+-- a trace with the lines of uses isn't built yet
+abbrev pub TracePromises : Bool → Request → Status → Outside → Outside → Type 0
+TracePromises true r status old new = PutsTextAlone r status old new
+TracePromises false r status old new = ImagePromises (λ status bytes file moves files. IsTraceKept r bytes file moves files status old new) r status old new
+
+-- by the command
+abbrev pub CommandPromises : Command → Request → Status → Outside → Outside → Type 0
+CommandPromises Run r status old new = ImagePromises (λ status bytes file moves files. IsKept r bytes file moves files status old new) r status old new
+CommandPromises Trace r status old new = TracePromises r.options.uses r status old new
+CommandPromises other r status old new = Unit {0}
+
+-- where the words ask for a command
+abbrev pub Promises : List (List ℕ) → Status → Outside → Outside → Type 0
+Promises words status old new = IfSome (command_of words) (λ r. CommandPromises r.command r status old new)

@@ -1,5 +1,5 @@
--- What the command `run` does, status by status: a file is read and opened, and the moves of a pattern are made (this project's own).
-use Rattle.std.specs.Prelude.{◌≡◌, ◌⊎◌, ℕ, List, Some, None, Result, Ok, Err}
+-- What the commands `run` and `trace` do, status by status: a file is read and opened, and the moves of a pattern are made (this project's own).
+use Rattle.std.specs.Prelude.{◌≡◌, ◌⊎◌, ℕ, Bool, true, false, List, Some, None, Result, Ok, Err}
 use Rattle.spec_base.specs.Files.{Files}
 use Rattle.world_io.specs.Outside.{StoreState}
 use Rattle.whole_file.specs.Reading.{ReadsWhole}
@@ -9,6 +9,7 @@ use Rattle.elf_image.specs.declared.refusal.Refusal.{Refusal}
 use Rattle.elf_image.specs.declared.refusal.Refusal.TheVariants.{TooLong, Already}
 use Rattle.elf_image.specs.Profile.{profile}
 use Rattle.elf_image.specs.Recovery.{front_damage}
+use Rattle.run_model.specs.Run.{World}
 use Rattle.run_model.specs.Moves.{Moves}
 use Rattle.plain_runner.specs.Runs.{Outside}
 use Rattle.plain_runner.specs.declared.ending.Ending.{Ending}
@@ -18,8 +19,9 @@ use Rattle.runner_parts.specs.Heard.{Said, AreTrueOf}
 use Rattle.runner.specs.Causes.{IsLater}
 use Rattle.program_driver.specs.Causes.{HasCause}
 use Rattle.program_driver.specs.Runs.{RunsTo}
+use Rattle.program_driver.specs.Traces.{TracesTo}
 use Rattle.command_words.specs.declared.request.Request.{Request}
-use Rattle.spechint_commands.specs.Common.{Silent, Stopped, ReadsFile, EndingStatus, image_name}
+use Rattle.spechint_commands.specs.Common.{Silent, Untouched, Stopped, ReadsFile, EndingStatus, image_name}
 use Rattle.spechint_commands.specs.declared.status.Status.{Status}
 use Rattle.spechint_commands.specs.declared.status.Status.TheVariants.{Done, Exited, Trapped, TurnsOver, Usage, NotBuilt, Absent, Refused, BadLine, TooMany, StoreFault, SinkFault, NoMemory}
 
@@ -45,8 +47,12 @@ IsOpeningStarved r old new = (bytes : List ℕ) × ReadsFile r bytes old new × 
 
 -- ---- running
 
+-- what moves of a world come to, by how they end
+abbrev pub Going : Type 1
+Going = Ending → World → Moves → Outside → Outside → Type 0
+
 -- the file was read whole and opened, and moves of its world were made, over all files of which what the store said is true: those that it tells are among them. No count of faults fell, and a fault has its cause
-pub record Ran (r : Request) (status : Status) (old new : Outside) : Type 0 where
+pub record Ran (go : Going) (r : Request) (status : Status) (old new : Outside) : Type 0 where
   pub bytes : List ℕ
   pub file : List ℕ
   pub between : StoreState
@@ -60,22 +66,44 @@ pub record Ran (r : Request) (status : Status) (old new : Outside) : Type 0 wher
   pub is_run : (files : Files) → AreFiles files → IsRun r.options.regions r.options.layout bytes file r.arguments files
   pub went :
       (files : Files) → AreFiles files → AreTrueOf files said →
-      RunsTo r.options.pattern r.options.turns r.options.report ending (run_world file r.arguments files) moves (record old { store = between }) new
+      go ending (run_world file r.arguments files) moves (record old { store = between }) new
   pub later : IsLater (record old { store = between }) new
   pub cause : HasCause ending (record old { store = between }) new
 
+-- what a status says of a command that reads a file and runs it
+abbrev pub ImageTo : Going → Request → Status → Outside → Outside → Type 0
+ImageTo go r (Exited code) old new = Ran go r (Exited code) old new
+ImageTo go r (Trapped cause pc) old new = Ran go r (Trapped cause pc) old new
+ImageTo go r (TurnsOver count) old new = Ran go r (TurnsOver count) old new
+ImageTo go r SinkFault old new = Ran go r SinkFault old new
+ImageTo go r Absent old new = Stopped r read.Absent old new
+ImageTo go r (Refused why) old new = (Stopped r read.TooLong old new × (why ≡ TooLong)) ⊎ IsUnopened r why old new
+ImageTo go r StoreFault old new = Stopped r read.Failed old new ⊎ Ran go r StoreFault old new
+ImageTo go r NoMemory old new = (Stopped r read.NoMemory old new ⊎ IsOpeningStarved r old new) ⊎ Ran go r NoMemory old new
+ImageTo go r Done old new = ⊥
+ImageTo go r Usage old new = ⊥
+ImageTo go r NotBuilt old new = ⊥
+ImageTo go r (BadLine n) old new = ⊥
+ImageTo go r TooMany old new = ⊥
+
+-- ---- the commands
+
+-- the moves of the pattern, with the report
+abbrev pub RunGoes : Request → Going
+RunGoes r = RunsTo r.options.pattern r.options.turns r.options.report
+
+-- the moves of the pattern, with the lines of what they tell
+abbrev pub TraceGoes : Request → Going
+TraceGoes r = TracesTo r.options.pattern r.options.turns
+
 -- what a status says of the command `run`
 abbrev pub RunTo : Request → Status → Outside → Outside → Type 0
-RunTo r (Exited code) old new = Ran r (Exited code) old new
-RunTo r (Trapped cause pc) old new = Ran r (Trapped cause pc) old new
-RunTo r (TurnsOver count) old new = Ran r (TurnsOver count) old new
-RunTo r SinkFault old new = Ran r SinkFault old new
-RunTo r Absent old new = Stopped r read.Absent old new
-RunTo r (Refused why) old new = (Stopped r read.TooLong old new × (why ≡ TooLong)) ⊎ IsUnopened r why old new
-RunTo r StoreFault old new = Stopped r read.Failed old new ⊎ Ran r StoreFault old new
-RunTo r NoMemory old new = (Stopped r read.NoMemory old new ⊎ IsOpeningStarved r old new) ⊎ Ran r NoMemory old new
-RunTo r Done old new = ⊥
-RunTo r Usage old new = ⊥
-RunTo r NotBuilt old new = ⊥
-RunTo r (BadLine n) old new = ⊥
-RunTo r TooMany old new = ⊥
+RunTo r status old new = ImageTo (RunGoes r) r status old new
+
+-- what a status says of the command `trace`. With the lines of uses it isn't built yet
+abbrev pub TraceBy : Bool → Request → Status → Outside → Outside → Type 0
+TraceBy true r status old new = (status ≡ NotBuilt) × Untouched old new
+TraceBy false r status old new = ImageTo (TraceGoes r) r status old new
+
+abbrev pub TraceTo : Request → Status → Outside → Outside → Type 0
+TraceTo r status old new = TraceBy r.options.uses r status old new

@@ -32,7 +32,7 @@ use Rattle.fetch_plan.specs.declared.traces.PlanTotals.{PlanTotals}
 use Rattle.spechint_commands.specs.Texts.{text_of}
 use Rattle.spechint_commands.specs.Lines.{replay_line, plan_line}
 use Rattle.spechint_commands.specs.Common.{Silent, Untouched, Stopped, ReadsFile, EndingStatus, image_name}
-use Rattle.spechint_commands.specs.Run.{RunTo}
+use Rattle.spechint_commands.specs.Run.{RunTo, TraceTo}
 use Rattle.spechint_commands.specs.declared.status.Status.{Status}
 use Rattle.spechint_commands.specs.declared.status.Status.TheVariants.{Done, Exited, Trapped, TurnsOver, Usage, NotBuilt, Absent, Refused, BadLine, TooMany, StoreFault, SinkFault, NoMemory}
 
@@ -196,7 +196,7 @@ abbrev pub CommandTo : Command → Request → Status → Outside → Outside �
 CommandTo Plain r status old new = PlainTo r status old new
 CommandTo Rewrite r status old new = RewriteTo r status old new
 CommandTo Run r status old new = RunTo r status old new
-CommandTo Trace r status old new = (status ≡ NotBuilt) × Untouched old new
+CommandTo Trace r status old new = TraceTo r status old new
 CommandTo Demo r status old new = (status ≡ NotBuilt) × Untouched old new
 CommandTo Replay r status old new = ReplayTo r status old new
 CommandTo Plan r status old new = PlanTo r status old new

@@ -3,6 +3,7 @@
 
 mod image;
 mod lines;
+mod opening;
 mod plain;
 mod plan;
 mod replay;
@@ -12,6 +13,7 @@ mod status;
 #[cfg(test)]
 mod tests;
 mod top;
+mod trace;
 
 pub use status::Status;
 pub use top::spechint;

@@ -272,7 +272,7 @@ fn words_that_are_no_command_line_are_usage(rt: HostRuntime) -> Result<(), Fail>
         Status::Usage
     );
     assert_eq!(rt;
-        command(alloc, &["trace", "w1"], &none, b"", &[], &[])?.status,
+        command(alloc, &["trace", "--uses", "w1"], &none, b"", &[], &[])?.status,
         Status::NotBuilt
     );
     Ok(())

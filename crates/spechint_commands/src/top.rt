@@ -6,7 +6,7 @@ ghost use Rattle.command_words.specs.CommandLine.{command_of};
 ghost use Rattle.spechint_commands.specs.Defined.{IsSteady, IsDefined};
 ghost use Rattle.command_words.specs.Limits.{IsWithinLimits};
 ghost use Rattle.spechint_commands.specs.Common.{image_name};
-ghost use Rattle.spechint_commands.specs.Promised.{IfRun, RunPromises};
+ghost use Rattle.spechint_commands.specs.Promised.{Promises};
 ghost use Rattle.spechint_commands.specs.Top.{IsOutcome, CommandTo};
 
 use crate::image::image_word;
@@ -16,6 +16,7 @@ use crate::replay::replay;
 use crate::rewrite::rewrite;
 use crate::run::run;
 use crate::status::{Status, tell};
+use crate::trace::trace;
 use command_words::{Command, Request, read_words};
 use file_runs::runs_are_as_plain;
 use run_promises::runs_keep;
@@ -41,7 +42,8 @@ fn command<D: Store, O: Sink, E: Sink>(
         Command::Replay => replay(alloc, request, store, out),
         Command::Plan => plan(alloc, request, store, out),
         Command::Run => run(alloc, request, store, out, err),
-        Command::Trace | Command::Demo => Status::NotBuilt,
+        Command::Trace => trace(alloc, request, store, out),
+        Command::Demo => Status::NotBuilt,
     }
 }
 
@@ -71,9 +73,9 @@ fn outcome<D: Store, O: Sink, E: Sink>(
 }
 
 /// Does what the words of a command line say, over a store of files and two sinks: `plain` runs an
-/// image by itself, `rewrite` puts its rewritten file, `run` runs that beside its shadow, `replay` runs a
-/// cache again from a trace, and `plan` tells the fewest fetches for one. The other commands aren't built
-/// yet.
+/// image by itself, `rewrite` puts its rewritten file, `run` runs that beside its shadow, `trace` puts what
+/// its moves tell, `replay` runs a cache again from a trace, and `plan` tells the fewest fetches for one.
+/// `demo` isn't built yet, nor are a trace's lines of uses.
 pub fn spechint<D: Store, O: Sink, E: Sink>(
     alloc: Global,
     words: &[String],
@@ -94,10 +96,10 @@ pub fn spechint<D: Store, O: Sink, E: Sink>(
     ensures absent { result ≡ Status.Absent
         → IfSome (command_of (map string_bytes words.now)) (λ r. IfSome (D.state store.old).files (λ files. files (image_name r) ≡ None)) }
 
-    // Where `run` ran, the program does as by itself, its hints are its next reads, and it gets on.
-    ensures promised { IfRun (map string_bytes words.now) (λ r. RunPromises r result
+    // Where `run` or `trace` ran, the program does as by itself, its hints are its next reads, and it gets on.
+    ensures promised { Promises (map string_bytes words.now) result
         (record { store = D.state store.old; out = O.state out.old; err = E.state err.old })
-        (record { store = D.state store.new; out = O.state out.new; err = E.state err.new })) }
+        (record { store = D.state store.new; out = O.state out.new; err = E.state err.new }) }
 
     // Where the store tells its files and no count rises, status and bytes are those of the words, the
     // file and its program's run.

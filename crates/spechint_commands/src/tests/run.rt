@@ -1,4 +1,4 @@
-//! The command `run` over a store and two sinks in memory.
+//! The commands `run` and `trace` over a store and two sinks in memory.
 
 use super::{EXITS, READS, command, image, image_with_data};
 use crate::status::Status;
@@ -6,7 +6,7 @@ use elf_image::Refusal;
 use std::alloc::Global;
 use std::test::Fail;
 
-// Whether `run` with these words comes to a status and puts these bytes on both sinks. The store has
+// Whether a command with these words comes to a status and puts these bytes on both sinks. The store has
 // the file `w1`, and `data` of 40 blocks, and its calls in `fails` fail.
 fn comes_to(
     alloc: Global,
@@ -65,6 +65,18 @@ fn all_turns_of_the_shadow_complete_nothing(rt: HostRuntime) -> Result<(), Fail>
             b"spechint: turns over after 0 instructions\n",
         )?
     );
+    Ok(())
+}
+
+#[test]
+fn a_trace_tells_what_moves_tell(rt: HostRuntime) -> Result<(), Fail> {
+    let alloc = rt.alloc();
+    let file = image(alloc, &EXITS)?;
+    let words = ["trace", "w1"];
+    let line = b"3 0 exit 7\n";
+    assert!(rt; comes_to(alloc, &words, &file, &[], Status::Exited(7), line, b"")?);
+    let told = command(alloc, &words, &file, b"", &[], &[1])?;
+    assert_eq!(rt; told.status, Status::SinkFault);
     Ok(())
 }
 

@@ -3,7 +3,8 @@ use Rattle.std.specs.Prelude.{All}
 use Rattle.run_laws.specs.OwnLaws.{AllBytes}
 use Rattle.plain_runner.specs.Runs.{Outside}
 use Rattle.spechint_commands.specs.Opens.{OpensTo}
-use Rattle.spechint_commands.proofs.Running.{driven-Ran, ran-RunTo, unread-RunTo, unopened-RunTo}
+use Rattle.spechint_commands.specs.Run.{RunGoes}
+use Rattle.spechint_commands.proofs.Running.{driven-Ran, ran-ImageTo, unread-ImageTo, unopened-ImageTo}
 use Rattle.spechint_commands.proofs.run.run.Goals as goal
 
 pub returns : goal.returns
@@ -19,7 +20,7 @@ returns g c =
     let opens = subst (λ (items : List ℕ). OpensTo r items (Ok runner)) c.deref.ensures.value c.in-Ok-open_image.ensures in
     let file = subst AllBytes c.deref-2.ensures.value c.are_bytes.ensures.file in
     let words = subst (λ (words : List (List ℕ)). All AllBytes words) c.as_slice.ensures c.are_bytes.ensures.words in
-    ran-RunTo r c.status_of.result old new
-    (driven-Ran r c.in-Ok.bytes.items c.status_of.result c.run-ending.result runner c.run-ending.new.runner (g.D.Store.state c.read_file.new.store) old new
+    ran-ImageTo (RunGoes r) r c.status_of.result old new
+    (driven-Ran (RunGoes r) r c.in-Ok.bytes.items c.status_of.result c.run-ending.result runner c.run-ending.new.runner (g.D.Store.state c.read_file.new.store) old new
     c.requires file words c.in-Ok.ensures.read opens c.status_of.ensures c.run-ending.ensures.drives c.run-ending.ensures.later
     (c.run-ending.ensures.cause opens.2.goes_on))

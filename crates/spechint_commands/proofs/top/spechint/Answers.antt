@@ -1,6 +1,6 @@
 use Rattle.spechint_commands.proofs.Causes.{usage-none, store_fault-Rose, sink_fault-Rose, absent-told}
 use Rattle.spechint_commands.proofs.Defined.{outcome-IsDefined}
-use Rattle.spechint_commands.proofs.Promised.{outcome-RunPromises}
+use Rattle.spechint_commands.proofs.Promised.{outcome-Promises}
 use Rattle.spechint_commands.proofs.top.spechint.Goals as goal
 
 pub returns-clause-usage : goal.returns-clause-usage
@@ -17,7 +17,7 @@ returns-clause-absent g c = absent-told _ _ _ _ c.outcome.ensures.outcome
 
 pub returns-clause-promised : goal.returns-clause-promised
 returns-clause-promised g c =
-    outcome-RunPromises (record {
+    outcome-Promises (record {
       worlds = c.runs_are_as_plain.ensures.worlds;
       plain = c.runs_are_as_plain.ensures.plain;
       finish = c.runs_are_as_plain.ensures.finish;

@@ -1,7 +1,7 @@
 use Rattle.std.proofs.Common.{List, ℕ, subst}
 use Rattle.runner.specs.Opens.{OpensAs}
 use Rattle.std.specs.Prelude.{Ok}
-use Rattle.spechint_commands.proofs.run.open.Goals as goal
+use Rattle.spechint_commands.proofs.opening.open.Goals as goal
 
 pub returns-in-Ok : goal.returns-in-Ok
 returns-in-Ok c =

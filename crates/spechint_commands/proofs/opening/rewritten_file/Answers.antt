@@ -5,8 +5,8 @@ use Rattle.elf_writer.specs.FileParts.{file_length}
 use Rattle.elf_writer.specs.RewrittenFile.{rewritten_file}
 use Rattle.elf_writer.specs.Writing.{is_done, listed}
 use Rattle.elf_writer.proofs.FileLemmas.{IsWritable-rewritable}
-use Rattle.spechint_commands.proofs.Opening.{parts-HoldsRewritten}
-use Rattle.spechint_commands.proofs.run.rewritten_file.Goals as goal
+use Rattle.spechint_commands.proofs.Opens.{parts-HoldsRewritten}
+use Rattle.spechint_commands.proofs.opening.rewritten_file.Goals as goal
 
 pub returns : goal.returns
 returns c =

@@ -1,0 +1,66 @@
+//! The command `trace`.
+
+ghost use Rattle.world_io.specs.Outside.{SinkState};
+ghost use Rattle.command_words.specs.Limits.{IsWithinLimits};
+ghost use Rattle.spechint_commands.specs.Run.{ImageTo, TraceGoes, TraceTo};
+
+use crate::image::read_file;
+use crate::opening::{are_bytes, open_image};
+use crate::status::{Status, status_of};
+use command_words::Request;
+use program_driver::trace as drive;
+use std::alloc::Global;
+use world_io::{Sink, Store};
+
+/// Reads a file, opens it as a rewritten program, and makes the moves of the pattern, with the lines of
+/// what they tell on standard output.
+fn trace_moves<D: Store, O: Sink>(
+    alloc: Global,
+    request: &Request,
+    store: &mut D,
+    out: &mut O,
+) -> Status
+    requires { IsWithinLimits request.now }
+    ensures { (err : SinkState) → ImageTo (TraceGoes request.now) request.now result
+        (record { store = D.state store.old; out = O.state out.old; err = err })
+        (record { store = D.state store.new; out = O.state out.new; err = err }) }
+{
+    let bytes = match read_file(alloc, request, store) {
+        Ok(bytes) => bytes,
+        Err(status) => return status,
+    };
+    let mut runner = match open_image(alloc, &bytes, request) {
+        Ok(runner) => runner,
+        Err(status) => return status,
+    };
+    are_bytes(&bytes, request.arguments.as_slice());
+    let options = &request.options;
+    let ending = drive(
+        alloc,
+        &mut runner,
+        &options.pattern,
+        options.turns,
+        store,
+        out,
+    );
+    status_of(ending)
+}
+
+/// Traces the run of a file. The lines of uses aren't built yet.
+pub fn trace<D: Store, O: Sink>(
+    alloc: Global,
+    request: &Request,
+    store: &mut D,
+    out: &mut O,
+) -> Status
+    requires { IsWithinLimits request.now }
+    ensures { (err : SinkState) → TraceTo request.now result
+        (record { store = D.state store.old; out = O.state out.old; err = err })
+        (record { store = D.state store.new; out = O.state out.new; err = err }) }
+{
+    if request.options.uses {
+        Status::NotBuilt
+    } else {
+        trace_moves(alloc, request, store, out)
+    }
+}
