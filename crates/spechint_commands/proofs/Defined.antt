@@ -26,7 +26,6 @@ use Rattle.plain_runner.specs.declared.ending.Ending.{Ending}
 use Rattle.plain_runner.specs.declared.ending.Ending.TheVariants as ending
 use Rattle.run_model.specs.Run.{World}
 use Rattle.run_model.specs.Moves.{Moves, run}
-use Rattle.run_promises.specs.Promises.{IsAsPlain}
 use Rattle.file_world.specs.Worlds.{AreFiles}
 use Rattle.file_runs.specs.Runs.{run_world, plain_program, RunsAreAsPlain}
 use Rattle.program_driver.specs.Lines.{ArePut, LinesTo, ending_with, fault_ending}

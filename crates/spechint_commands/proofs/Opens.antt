@@ -1,9 +1,8 @@
 -- What opening a file for `run` comes to, by the kind of file.
-use Rattle.std.proofs.Common.{◌≡◌, ℕ, ◌≤◌, ◌<◌, Bool, true, List, [], ◌++◌, length, Option, Some, None, Result, Ok, Err, refl, ap, sym, ◌∙◌, subst, arith}
+use Rattle.std.proofs.Common.{◌≡◌, ℕ, ◌≤◌, ◌<◌, Bool, true, List, [], ◌++◌, Option, Some, None, Result, Ok, Err, refl, ap, sym, ◌∙◌, subst, arith}
 use Rattle.std.proofs.lemmas.List.{append-nil}
 use Rattle.std.specs.Prelude.{All}
 use Rattle.spec_base.specs.declared.layout.Version.{Version}
-use Rattle.world_io.specs.Outside.{SinkState}
 use Rattle.world_io.specs.Buffers.{BufSinkState, told_of_buf}
 use Rattle.world_io.specs.Logs.{bytes_of}
 use Rattle.world_io.specs.Texts.{PutsText, IsPutSurely}
@@ -14,16 +13,16 @@ use Rattle.elf_image.specs.declared.refusal.Refusal.TheVariants.{Already}
 use Rattle.elf_image.specs.declared.recovery.Part.{Part}
 use Rattle.elf_image.specs.declared.recovery.Recovered.{Recovered}
 use Rattle.elf_image.specs.Profile.{profile}
-use Rattle.elf_image.specs.Recovery.{front_damage, carried}
+use Rattle.elf_image.specs.Recovery.{carried}
 use Rattle.elf_writer.specs.declared.source.Parts.{Parts}
 use Rattle.elf_writer.specs.FileParts.{file_length}
-use Rattle.elf_writer.specs.RewrittenFile.{Code, rewritten_file}
+use Rattle.elf_writer.specs.RewrittenFile.{rewritten_file}
 use Rattle.elf_writer.specs.ProgramCode.{code_of_text}
 use Rattle.elf_writer.specs.Writing.{listed}
 use Rattle.elf_image.specs.Image.{text_words}
-use Rattle.rewriter.specs.Layouts.{layout_of, rewritten}
+use Rattle.rewriter.specs.Layouts.{rewritten}
 use Rattle.rewriter.specs.Rewriting.{ArePartsOf}
-use Rattle.rewritten_reader.specs.Damage.{first_damage, recovered, recovered_unless}
+use Rattle.rewritten_reader.specs.Damage.{first_damage, recovered_unless}
 use Rattle.recovery_laws.specs.ReadBack.{RewrittenIsRecovered, carried_of}
 use Rattle.file_runs.specs.Runs.{run_file_by, unless_damaged}
 use Rattle.runner.specs.declared.runner.Runner.{Runner}

@@ -1,8 +1,7 @@
 -- What a user of `run` and `trace` may rely on, from the laws of runs.
-use Rattle.std.proofs.Common.{◌≡◌, ◌⊎◌, inl, inr, ℕ, Bool, true, false, List, Option, Some, None, IfSome, refl, sym, subst}
+use Rattle.std.proofs.Common.{inl, inr, ℕ, Bool, true, false, List, Option, Some, None, IfSome, refl, sym, subst}
 use Rattle.spec_base.specs.Files.{Files}
-use Rattle.world_io.specs.Outside.{SinkState, StoreState}
-use Rattle.program_model.specs.PlainRun.{Image as Program}
+use Rattle.world_io.specs.Outside.{SinkState}
 use Rattle.plain_runner.specs.Runs.{Outside}
 use Rattle.run_promises.specs.Laws.{RunsKeep}
 use Rattle.file_world.specs.Worlds.{AreFiles}

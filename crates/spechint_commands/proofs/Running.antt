@@ -1,5 +1,5 @@
 -- What the parts of the commands `run` and `trace` say together.
-use Rattle.std.proofs.Common.{◌≡◌, ◌⊎◌, inl, inr, ℕ, Bool, true, false, List, [], refl, ◌∙◌, Ok, Err, Result, subst}
+use Rattle.std.proofs.Common.{◌≡◌, inl, inr, ℕ, Bool, true, false, List, [], ◌∙◌, Ok, Err}
 use Rattle.std.specs.Prelude.{All}
 use Rattle.world_io.specs.Outside.{StoreState}
 use Rattle.whole_file.specs.Reading.{ReadsWhole}
@@ -10,7 +10,6 @@ use Rattle.plain_runner.specs.Runs.{Outside}
 use Rattle.plain_runner.specs.declared.ending.Ending.{Ending}
 use Rattle.file_runs.specs.Runs.{run_world}
 use Rattle.runner.specs.Causes.{IsLater}
-use Rattle.runner.specs.Opens.{StandsAtStart}
 use Rattle.runner.specs.Shows.{Shows}
 use Rattle.runner.specs.declared.runner.Runner.{Runner}
 use Rattle.program_driver.specs.Causes.{HasCause}
@@ -18,8 +17,8 @@ use Rattle.program_driver.specs.Runs.{Drives}
 use Rattle.command_words.specs.Limits.{IsWithinLimits}
 use Rattle.command_words.specs.declared.request.Request.{Request}
 use Rattle.spechint_commands.specs.Common.{FileRead, Silent, ReadsFile, EndingStatus, image_name}
-use Rattle.spechint_commands.specs.Opens.{OpensTo, StandsBefore}
-use Rattle.spechint_commands.specs.Run.{asked_file, Going, Ran, ImageTo, TraceGoes, TraceBy}
+use Rattle.spechint_commands.specs.Opens.{OpensTo}
+use Rattle.spechint_commands.specs.Run.{Going, Ran, ImageTo, TraceGoes, TraceBy}
 use Rattle.spechint_commands.specs.declared.status.Status.{Status}
 use Rattle.spechint_commands.specs.declared.status.Status.TheVariants.{Done, Exited, Trapped, TurnsOver, Usage, NotBuilt, Absent, Refused, BadLine, TooMany, StoreFault, SinkFault, NoMemory}
 

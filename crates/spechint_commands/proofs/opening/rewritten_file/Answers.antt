@@ -1,4 +1,4 @@
-use Rattle.std.proofs.Common.{sym, subst}
+use Rattle.std.proofs.Common.{subst}
 use Rattle.world_io.specs.Texts.{PutsText, IsPutSurely}
 use Rattle.world_io.specs.Buffers.{BufSinkState, told_of_buf}
 use Rattle.elf_writer.specs.FileParts.{file_length}
