@@ -10,3 +10,4 @@ pub mod ShadowPlans
 pub mod ShadowSteps
 pub mod FetchSteps
 pub mod MovesMade
+pub mod Stretched
