@@ -6,4 +6,6 @@ mod Turning
 mod Bottomless
 mod Reported
 mod Idling
+mod Passing
+mod AtOnce
 mod Stretching

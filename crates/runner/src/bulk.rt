@@ -37,6 +37,7 @@ impl Runner {
         requires { self.old.counts.moves + words ≤ 2 ^ 63 }
         ensures shows { (w : World) (r : Run) → Shows self.old w r → Shows self.new w (words_done words r) }
         ensures moves { self.new.counts.moves ≡ self.old.counts.moves + words }
+        ensures end { self.new.end ≡ self.old.end }
     {
         if words != 0 {
             self.fall_silent();
@@ -50,6 +51,7 @@ impl Runner {
         requires { self.old.counts.moves < 2 ^ 63 }
         ensures shows { (w : World) (r : Run) (gate : State) → Shows self.old w r → IsAtRest (own_side r) r.cache → Shows self.new w (record (begun r) { at_gate = gate; asked = false }) }
         ensures moves { self.new.counts.moves ≡ self.old.counts.moves + 1 }
+        ensures end { self.new.end ≡ self.old.end }
     {
         self.begin();
         self.asked = false;
@@ -63,6 +65,7 @@ impl Runner {
         ensures most { result ≤ most }
         ensures makes { (w : World) (r : Run) → Accepted w → Shows self.old w r → MakesOwnWords result self.new w r }
         ensures moves { self.new.counts.moves ≡ self.old.counts.moves + result }
+        ensures end { self.new.end ≡ self.old.end }
     {
         if !self.is_in_program() {
             return 0;

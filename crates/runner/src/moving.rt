@@ -70,6 +70,7 @@ impl Runner {
         requires { self.old.counts.moves + moves ≤ 2 ^ 63 }
         ensures shows { (w : World) (r : Run) (ms : Moves) → Shows self.old w r → r.end ≡ None → AreIdle r ms → length ms ≡ moves → Shows self.new w (run_from w r ms) }
         ensures moves { self.new.counts.moves ≡ self.old.counts.moves + moves }
+        ensures end { self.new.end ≡ self.old.end }
     {
         if moves != 0 {
             self.fall_silent();

@@ -1,9 +1,6 @@
-use Rattle.std.proofs.Common.{◌≡◌, ◌∙◌, ◌+◌, ◌≤◌, ◌^◌, List, [], ◌++◌, length, ap, sym, subst, arith}
+use Rattle.std.proofs.Common.{◌≡◌, ◌∙◌, ◌+◌, ◌≤◌, ◌^◌, [], ◌++◌, length, ap, sym, arith}
 use Rattle.std.specs.Prelude.{replicate}
-use Rattle.spec_base.specs.declared.note.Move.{Move}
 use Rattle.run_model.specs.Patterns.{pattern_moves}
-use Rattle.plain_runner.specs.Runs.{Outside}
-use Rattle.program_driver.specs.Progress.{Progress}
 use Rattle.program_driver.proofs.Rounding.{all-length}
 use Rattle.program_driver.proofs.Stretching.{stretch-length}
 use Rattle.program_driver.proofs.Driven.{moves-Progress, first-Progress, over-Drives}
@@ -17,6 +14,21 @@ loop-step-init g c =
       log =
           moves-Progress c.args.pattern.now c.args.turns c.args.runner.now c.args.runner.now (record { store = g.D.Store.state c.args.store.now; out = g.O.Sink.state c.args.out.now; err = g.E.Sink.state c.args.err.now }) (record { store = g.D.Store.state c.args.store.now; out = g.O.Sink.state c.args.out.now; err = g.E.Sink.state c.args.err.now }) (pattern_moves c.args.pattern.now c.args.turns) c.new-schedule.result (sym c.new-schedule.ensures)
           (first-Progress c.args.pattern.now c.args.turns c.args.runner.now (record { store = g.D.Store.state c.args.store.now; out = g.O.Sink.state c.args.out.now; err = g.E.Sink.state c.args.err.now }));
+    }
+
+pub drive_at_once-requires : goal.drive_at_once-requires
+drive_at_once-requires g c =
+    let count : length c.loop-step.schedule ≡ c.in-Some.count + length c.next_stretch.new.self = ap length c.in-Some.ensures.moves ∙ stretch-length c.in-Some.count c.in-Some.step c.next_stretch.new.self in
+    omega (arith, c.loop-step.invariant.few, c.drive_stretch.ensures.moves, count)
+
+pub loop-step-preserved : goal.loop-step-preserved
+loop-step-preserved g c =
+    record {
+      few = c.drive_at_once.ensures.few;
+      log =
+          c.drive_at_once.ensures.goes (record { store = g.D.Store.state c.drive_stretch.new.store; out = g.O.Sink.state c.drive_stretch.new.out; err = g.E.Sink.state c.drive_stretch.new.err }) c.args.pattern.now c.args.turns c.args.runner.now (record { store = g.D.Store.state c.args.store.now; out = g.O.Sink.state c.args.out.now; err = g.E.Sink.state c.args.err.now })
+          (c.in_default-drive_stretch.ensures.goes c.args.pattern.now c.args.turns c.next_stretch.new.self c.args.runner.now (record { store = g.D.Store.state c.args.store.now; out = g.O.Sink.state c.args.out.now; err = g.E.Sink.state c.args.err.now })
+          (moves-Progress c.args.pattern.now c.args.turns c.args.runner.now c.loop-step.runner (record { store = g.D.Store.state c.args.store.now; out = g.O.Sink.state c.args.out.now; err = g.E.Sink.state c.args.err.now }) (record { store = g.D.Store.state c.loop-step.store; out = g.O.Sink.state c.loop-step.out; err = g.E.Sink.state c.loop-step.err }) c.loop-step.schedule (replicate c.in-Some.count c.in-Some.step ++ c.next_stretch.new.self) c.in-Some.ensures.moves c.loop-step.invariant.log));
     }
 
 pub returns-in-Some-drive_stretch : goal.returns-in-Some-drive_stretch

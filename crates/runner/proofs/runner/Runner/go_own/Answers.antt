@@ -84,4 +84,5 @@ returns-in_default c =
             }));
           });
       moves = c.complete_words.ensures.moves;
+      end = c.complete_words.ensures.end;
     }
