@@ -1,26 +1,21 @@
 -- Moves that do nothing but count, in a run over the outside.
-use Rattle.std.proofs.Common.{◌≡◌, ℕ, zero, suc, ◌+◌, Bool, true, false, not, ◌&&◌, ◌||◌, List, [], ◌∷◌, ◌++◌, length, map, Option, Some, None, refl, ap, sym, ◌∙◌, subst}
+use Rattle.std.proofs.Common.{◌≡◌, ℕ, zero, suc, Bool, true, false, not, ◌&&◌, ◌||◌, List, [], ◌∷◌, ◌++◌, length, map, Option, Some, None, refl, ap, sym, ◌∙◌, subst}
 use Rattle.std.specs.Prelude.{is_none, replicate}
 use Rattle.std.proofs.lemmas.List.{append_assoc, append-nil, map-append}
 use Rattle.spec_base.specs.declared.note.Move.{Move}
 use Rattle.spec_base.specs.declared.note.Move.TheVariants.{O, S, T, D}
 use Rattle.spec_base.specs.declared.spot.BlockSpot.{BlockSpot}
-use Rattle.spec_base.specs.Layout.{stub_start}
-use Rattle.rv_model.specs.Effect.{fetched}
 use Rattle.program_model.specs.Cache.{in_flight}
-use Rattle.code_model.specs.Stub.{stub}
-use Rattle.run_model.specs.Run.{World, Run, RunEnd, Answer, Usual, opened_run}
-use Rattle.run_model.specs.ShadowMoves.{is_running, is_call_word, fetch_shadow, shadow_plan}
+use Rattle.run_model.specs.Run.{World, Run, Usual, opened_run}
+use Rattle.run_model.specs.ShadowMoves.{is_running}
 use Rattle.run_model.specs.Moves.{Moves, step, run, run_from, is_idle, begun}
-use Rattle.run_model.specs.Patterns.{Pattern, pattern_moves}
-use Rattle.run_model.specs.Trace.{told_by, trace, trace_from}
-use Rattle.run_laws.specs.OwnLaws.{Accepted}
+use Rattle.run_model.specs.Patterns.{Pattern}
+use Rattle.run_model.specs.Trace.{told_by, trace}
 use Rattle.world_io.specs.Outside.{SinkState, StoreState}
 use Rattle.world_io.specs.Logs.{StoreLog, AreOffered}
 use Rattle.world_io.proofs.Stores.{none-StoreLog}
 use Rattle.plain_runner.specs.Runs.{Outside}
-use Rattle.word_laws.specs.Shown.{is_performed}
-use Rattle.move_requests.specs.Asked.{Asked, Nothing, asks, asks_if, asks_unless, move_asks, performing_asks, fetching_asks, is_stub, MayAnswer}
+use Rattle.move_requests.specs.Asked.{Asked, Nothing, asks, asks_if, asks_unless, move_asks, fetching_asks, MayAnswer}
 use Rattle.move_requests.specs.Offers.{store_call, offers_in}
 use Rattle.move_requests.specs.Hears.{Hears, AreHeard}
 use Rattle.move_requests.proofs.Snoc.{moves_add_up}
@@ -32,7 +27,7 @@ use Rattle.runner.specs.Shows.{Shows}
 use Rattle.runner.specs.declared.runner.Runner.{Runner}
 use Rattle.program_driver.specs.Progress.{HasMade, Progress, TraceProgress}
 use Rattle.program_driver.specs.Lines.{ArePut}
-use Rattle.program_driver.specs.Traces.{told_line, trace_lines, over_bottomless}
+use Rattle.program_driver.specs.Traces.{told_line, over_bottomless}
 use Rattle.program_driver.proofs.Driven.{firsts, goes-snoc}
 use Rattle.program_driver.proofs.Traced.{trace-snoc}
 
