@@ -1,4 +1,5 @@
 pub mod Moved
+pub mod Causes
 pub mod Outside
 pub mod Words
 pub mod Puts

@@ -1,5 +1,6 @@
 pub mod Shows
 pub mod Stretches
+pub mod Causes
 pub mod OwnGoes
 pub mod ShadowGoes
 pub mod Fetches

@@ -1,6 +1,6 @@
 //! The answers of the own hart's calls.
 
-ghost use Rattle.std.specs.Prelude.{◌≡◌, ◌<◌, ◌≤◌, ◌∷◌, [], pos, false, None};
+ghost use Rattle.std.specs.Prelude.{◌≡◌, ◌<◌, ◌≤◌, ◌∷◌, [], pos, false, None, Some};
 ghost use Rattle.rv_model.specs.Registers.{reg, with_reg};
 ghost use Rattle.rv_model.specs.Effect.{after};
 ghost use Rattle.spec_base.specs.Word.{word_of_int};
@@ -52,6 +52,7 @@ impl Runner {
         requires goes { self.old.end ≡ None }
         ensures shows { (w : World) (r : Run) → Shows self.old w r → Shows self.new w (ended r (run_end end) (note ∷ [])) }
         ensures moves { self.new.counts.moves ≡ self.old.counts.moves }
+        ensures end { self.new.end ≡ Some end }
     {
         self.end = Some(end);
         self.notes.set(note);
@@ -65,6 +66,7 @@ impl Runner {
         requires since { self.old.counts.own_since < self.old.counts.moves }
         ensures shows { (w : World) (r : Run) → Shows self.old w r → Shows self.new w (call_answered (changed r.own.files change.now) value.now r) }
         ensures moves { self.new.counts.moves ≡ self.old.counts.moves }
+        ensures end { self.new.end ≡ self.old.end }
     {
         self.own_files.make(*change);
         answer(&mut self.own, value);
@@ -80,6 +82,7 @@ impl Runner {
         requires since { self.old.counts.own_since < self.old.counts.moves }
         ensures shows { (w : World) (r : Run) → Shows self.old w r → Shows self.new w (call_answered r.own.files (pos count) r) }
         ensures moves { self.new.counts.moves ≡ self.old.counts.moves }
+        ensures end { self.new.end ≡ self.old.end }
     {
         self.answer_own(&Change::Nothing, &(count as i64));
     }
@@ -92,6 +95,7 @@ impl Runner {
         requires since { self.old.counts.own_since < self.old.counts.moves }
         ensures shows { (w : World) (r : Run) → Shows self.old w r → Shows self.new w (read_answered spot.now r) }
         ensures moves { self.new.counts.moves ≡ self.old.counts.moves }
+        ensures end { self.new.end ≡ self.old.end }
     {
         let descriptor = argument(&self.own, 10);
         self.own_files.read_on(descriptor, spot.count);

@@ -33,6 +33,7 @@ impl Runner {
     fn assume_answer(&mut self, value: &i64)
         ensures shows { (w : World) (r : Run) → Shows self.old w r → Shows self.new w (assumed_with r (r.shadow.files, value.now)) }
         ensures counts { self.new.counts ≡ self.old.counts }
+        ensures end { self.new.end ≡ self.old.end }
     {
         self.shadow.answer(Reg::from_low_bits(10), word_of(value));
     }
@@ -43,6 +44,7 @@ impl Runner {
         ensures shows { (w : World) (r : Run) → Shows self.old w r → TrueSizes w.files (changed self.old.shadow_files change.now)
             → Shows self.new w (assumed_with r (changed self.old.shadow_files change.now, value.now)) }
         ensures counts { self.new.counts ≡ self.old.counts }
+        ensures end { self.new.end ≡ self.old.end }
     {
         self.shadow_files.make(*change);
         self.shadow.answer(Reg::from_low_bits(10), word_of(value));
@@ -53,6 +55,7 @@ impl Runner {
         requires { count ≤ 65536 }
         ensures shows { (w : World) (r : Run) → Shows self.old w r → Shows self.new w (assumed_with r (r.shadow.files, pos count)) }
         ensures counts { self.new.counts ≡ self.old.counts }
+        ensures end { self.new.end ≡ self.old.end }
     {
         self.assume_answer(&(count as i64));
     }
@@ -63,6 +66,7 @@ impl Runner {
         ensures shows { (w : World) (r : Run) → Shows self.old w r → TrueSizes w.files (opened r.shadow.files name.now (Some size)).0
             → Shows self.new w (assumed_with r (opened r.shadow.files name.now (Some size))) }
         ensures counts { self.new.counts ≡ self.old.counts }
+        ensures end { self.new.end ≡ self.old.end }
     {
         let after = self.shadow_files.found(*name, size);
         self.assume_change(&after.0, &after.1);
@@ -72,6 +76,8 @@ impl Runner {
     fn assume_look<D: Store>(&mut self, name: &Name, store: &mut D)
         ensures looks { (unhinted : Bool) → Assumes self.old self.new unhinted (Looks name.now) (D.state store.old) (D.state store.new) }
         ensures counts { self.new.counts ≡ self.old.counts }
+        ensures end { self.new.end ≡ self.old.end }
+        ensures later { (D.state store.old).faults ≤ (D.state store.new).faults }
     {
         match store.look(name) {
             Look::Found(size) => self.assume_found(name, size),
@@ -89,6 +95,7 @@ impl Runner {
         ensures told { length self.new.notes ≡ 1 }
         ensures kept { (self.new.mem ≡ self.old.mem) × (self.new.shadow ≡ self.old.shadow) × (self.new.shadow_files ≡ self.old.shadow_files) }
         ensures counts { (self.new.counts.shadow_since ≡ self.old.counts.shadow_since) × (self.new.counts.moves ≡ self.old.counts.moves) }
+        ensures end { self.new.end ≡ self.old.end }
     {
         hint_blocks(&mut self.cache, spot);
         self.counts.hint();
@@ -105,6 +112,7 @@ impl Runner {
         ensures told { length self.new.notes < 2 }
         ensures kept { (self.new.mem ≡ self.old.mem) × (self.new.shadow ≡ self.old.shadow) × (self.new.shadow_files ≡ self.old.shadow_files) }
         ensures counts { (self.new.counts.shadow_since ≡ self.old.counts.shadow_since) × (self.new.counts.moves ≡ self.old.counts.moves) }
+        ensures end { self.new.end ≡ self.old.end }
     {
         if !unhinted {
             self.give_hint(spot);
@@ -121,6 +129,7 @@ impl Runner {
         ensures shows { (w : World) (r : Run) → Shows self.old w r → length (bytes_read w.files spot.now) ≡ spot.now.count → AreConsistent w.image.layout r.shared
             → Shows self.new w (fill w spot.now address r) }
         ensures kept { (self.new.shadow ≡ self.old.shadow) × (self.new.shadow_files ≡ self.old.shadow_files) × (self.new.counts ≡ self.old.counts) }
+        ensures end { self.new.end ≡ self.old.end }
     {
         fill_held(
             &self.cache,
@@ -141,6 +150,7 @@ impl Runner {
         ensures shows { (w : World) (r : Run) → Shows self.old w r → length (bytes_read w.files spot.now) ≡ spot.now.count → AreConsistent w.image.layout r.shared
             → Shows self.new w (fill w spot.now address r) }
         ensures kept { (self.new.shadow ≡ self.old.shadow) × (self.new.shadow_files ≡ self.old.shadow_files) × (self.new.counts ≡ self.old.counts) }
+        ensures end { self.new.end ≡ self.old.end }
     {
         if spot.count != 0 {
             self.fill_some(spot, address);
@@ -153,6 +163,7 @@ impl Runner {
         ensures shows { (w : World) (r : Run) → Shows self.old w r → TrueSizes w.files (after_read r.shadow.files (reg r.shadow.registers 10) spot.now.count)
             → Shows self.new w (assumed_with r (after_read r.shadow.files (reg r.shadow.registers 10) spot.now.count, pos spot.now.count)) }
         ensures counts { self.new.counts ≡ self.old.counts }
+        ensures end { self.new.end ≡ self.old.end }
     {
         let descriptor = self.shadow.reg(Reg::from_low_bits(10));
         self.shadow_files.read_on(descriptor, spot.count);
@@ -169,6 +180,7 @@ impl Runner {
             → TrueSizes w.files (after_read r.shadow.files (reg r.shadow.registers 10) spot.now.count)
             → Shows self.new w (assumed_with (fill w spot.now address (hint_given unhinted spot.now r)) (after_read r.shadow.files (reg r.shadow.registers 10) spot.now.count, pos spot.now.count)) }
         ensures counts { (self.new.counts.shadow_since ≡ self.old.counts.shadow_since) × (self.new.counts.moves ≡ self.old.counts.moves) }
+        ensures end { self.new.end ≡ self.old.end }
     {
         self.hint_unless(unhinted, spot);
         self.fill_assumed(spot, address);
@@ -184,6 +196,8 @@ impl Runner {
         requires quiet { self.old.notes ≡ [] }
         ensures assumes { Assumes self.old self.new unhinted (plan_shown (reg (core_of self.old.shadow).registers 10) (made self.old.shadow_files plan.now)) (D.state store.old) (D.state store.new) }
         ensures counts { (self.new.counts.shadow_since ≡ self.old.counts.shadow_since) × (self.new.counts.moves ≡ self.old.counts.moves) }
+        ensures end { self.new.end ≡ self.old.end }
+        ensures later { (D.state store.old).faults ≤ (D.state store.new).faults }
     {
         match plan {
             PlannedCall::Set(change, value) => self.assume_change(change, value),
@@ -200,6 +214,8 @@ impl Runner {
         requires quiet { self.old.notes ≡ [] }
         ensures assumes { Assumes self.old self.new unhinted (plan_in_copies (space_of self.old.mem) self.old.shadow_files (core_of self.old.shadow).registers) (D.state store.old) (D.state store.new) }
         ensures counts { (self.new.counts.shadow_since ≡ self.old.counts.shadow_since) × (self.new.counts.moves ≡ self.old.counts.moves) }
+        ensures end { self.new.end ≡ self.old.end }
+        ensures later { (D.state store.old).faults ≤ (D.state store.new).faults }
     {
         let plan = plan_of_shadow(&self.shadow, &self.shadow_files, &self.mem);
         self.assume(unhinted, &plan, store);

@@ -1,9 +1,12 @@
 //! The fetch that the own hart waits for.
 
 ghost use Rattle.std.specs.Prelude.{◌≡◌, true, None};
+ghost use Rattle.std.specs.Option.{option_map};
 ghost use Rattle.world_io.specs.Outside.{KeepsFiles};
 ghost use Rattle.cache_queue.specs.State.{lists};
 ghost use Rattle.cache_queue.specs.Finishes.{IsOf, FinishFails, FinishCounts};
+ghost use Rattle.runner_parts.specs.Answers.{end_after};
+ghost use Rattle.runner_parts.specs.Parts.{end_of_run};
 ghost use Rattle.runner.specs.Fetches.{Finishes};
 
 use crate::runner::Runner;
@@ -24,6 +27,7 @@ impl Runner {
         ensures failed { FinishFails (D.state store.old).faults result (D.state store.new).faults }
         ensures number { FinishCounts (D.state store.old) result (D.state store.new) }
         ensures moves { self.new.counts.moves ≡ self.old.counts.moves }
+        ensures end { self.new.end ≡ option_map end_of_run (end_after result) }
     {
         let place = self.gathered.min(16);
         let finished = finish_at(&mut self.cache, store, &mut self.staging, place);

@@ -1,6 +1,6 @@
 //! A runner at the start of its program, and the opening of a rewritten file.
 
-ghost use Rattle.std.specs.Prelude.{◌≡◌, ◌≤◌, ◌+◌, length, map, string_bytes, vec_len, IfOk};
+ghost use Rattle.std.specs.Prelude.{◌≡◌, ◌≤◌, ◌+◌, length, map, string_bytes, vec_len, IfOk, None};
 ghost use Rattle.std.specs.List.{sum_by};
 ghost use Rattle.hart_mem.specs.Held.{space_of};
 ghost use Rattle.hart_step.specs.Core.{core_of};
@@ -43,6 +43,7 @@ impl Runner {
     pub fn new(alloc: Global, own: Hart, mem: Mem, files: Files) -> Result<Runner, NoMemory>
         ensures shows { IfOk result (λ v. (w : World) → Accepted w → IsStart w (core_of own) (space_of mem) files → Shows v w (opened_run w)) }
         ensures counts { IfOk result (λ v. v.counts ≡ no_counts) }
+        ensures goes_on { IfOk result (λ v. v.end ≡ None) }
     {
         let cache = Cache::new(alloc, BLOCKS, DEPTH)?;
         let staging = zeros(alloc, STAGED)?;
@@ -80,6 +81,7 @@ impl Runner {
         requires short { sum_by (λ word. length word + 1) (map string_bytes arguments.now) ≤ 65_536 }
         ensures answer { OpensAs file.now (map string_bytes arguments.now) result }
         ensures counts { IfOk result (λ v. v.counts ≡ no_counts) }
+        ensures goes_on { IfOk result (λ v. v.end ≡ None) }
     {
         let opened = match open(alloc, file, arguments) {
             Ok(opened) => opened,

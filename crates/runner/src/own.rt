@@ -1,6 +1,6 @@
 //! The words of the own hart.
 
-ghost use Rattle.std.specs.Prelude.{◌≡◌, ◌≤◌, false, None};
+ghost use Rattle.std.specs.Prelude.{◌≡◌, ◌≤◌, false, None, Some};
 ghost use Rattle.run_model.specs.Run.{World, Run, Answer};
 ghost use Rattle.run_model.specs.OwnMoves.{own_in, own_wrote};
 ghost use Rattle.program_model.specs.Calls.{key_of};
@@ -11,6 +11,8 @@ ghost use Rattle.hart_step.specs.Core.{core_of};
 ghost use Rattle.word_laws.specs.OwnWords.{trapped};
 ghost use Rattle.runner_parts.specs.Counts.{AreBelow};
 ghost use Rattle.runner_parts.specs.Parts.{IsAtRest, own_side};
+ghost use Rattle.plain_runner.specs.Runs.{Outside};
+ghost use Rattle.runner.specs.Causes.{IsCaused};
 ghost use Rattle.runner.specs.OwnGoes.{MakesOwnWord};
 ghost use Rattle.runner.specs.Shows.{Shows};
 
@@ -26,6 +28,7 @@ impl Runner {
         requires goes { self.old.end ≡ None }
         ensures shows { (w : World) (r : Run) → Shows self.old w r → Shows self.new w (trapped r cause r.own.pc) }
         ensures moves { self.new.counts.moves ≡ self.old.counts.moves }
+        ensures end { self.new.end ≡ Some (End.Trap cause (core_of self.old.own).pc) }
     {
         let pc = self.own.pc();
         self.stop(End::Trap(cause, pc), Note::Trap(cause, pc));
@@ -39,6 +42,7 @@ impl Runner {
         requires spare { 1 ≤ spare_of self.old.mem }
         ensures shows { (w : World) (r : Run) (x : Answer) → Accepted w → Shows self.old w r → Shows self.new w (own_in View.Program w x r) }
         ensures moves { self.new.counts.moves ≡ self.old.counts.moves }
+        ensures caused { (now : Outside) → IsCaused self.new.end now now }
     {
         match step(&mut self.own, &mut self.mem) {
             Event::Done => self.complete(),
@@ -53,6 +57,7 @@ impl Runner {
     fn own_key(&mut self, rd: Reg)
         ensures shows { (w : World) (r : Run) → Shows self.old w r → IsAtRest (own_side r) r.cache → Shows self.new w (own_wrote r rd (key_of (plan_of w.image.layout r.own))) }
         ensures moves { self.new.counts.moves ≡ self.old.counts.moves }
+        ensures end { self.new.end ≡ self.old.end }
     {
         let key = key_of_own(&self.own, &self.own_files, &self.mem);
         self.own.answer(rd, key);
@@ -74,6 +79,7 @@ impl Runner {
         ensures makes { MakesOwnWord self.old self.new (record { store = D.state store.old; out = O.state out.old; err = E.state err.old })
             (record { store = D.state store.new; out = O.state out.new; err = E.state err.new }) }
         ensures moves { self.new.counts.moves ≡ self.old.counts.moves }
+        ensures caused { IsCaused self.new.end (record { store = D.state store.old; out = O.state out.old; err = E.state err.old }) (record { store = D.state store.new; out = O.state out.new; err = E.state err.new }) }
     {
         match step(&mut self.own, &mut self.mem) {
             Event::Done => {}

@@ -8,6 +8,7 @@ ghost use Rattle.hart_step.specs.Core.{core_of};
 ghost use Rattle.file_calls.specs.Plans.{plan_shown, made, PlanBounds, PlanKeepsBreak, IsOnData};
 ghost use Rattle.runner_parts.specs.Counts.{AreBelow};
 ghost use Rattle.runner_parts.specs.Plans.{plan_in_data};
+ghost use Rattle.runner.specs.Causes.{IsCaused};
 ghost use Rattle.runner.specs.OwnGoes.{Performs};
 
 use crate::runner::Runner;
@@ -35,6 +36,7 @@ impl Runner {
         ensures performs { Performs self.old self.new (plan_shown (reg (core_of self.old.own).registers 10) (made self.old.own_files plan.now))
             (record { store = D.state store.old; out = O.state out.old; err = E.state err.old }) (record { store = D.state store.new; out = O.state out.new; err = E.state err.new }) }
         ensures moves { self.new.counts.moves ≡ self.old.counts.moves }
+        ensures caused { IsCaused self.new.end (record { store = D.state store.old; out = O.state out.old; err = E.state err.old }) (record { store = D.state store.new; out = O.state out.new; err = E.state err.new }) }
     {
         match plan {
             PlannedCall::Set(change, value) => self.own_set(change, value),
@@ -64,6 +66,7 @@ impl Runner {
         ensures performs { Performs self.old self.new (plan_in_data (space_of self.old.mem) self.old.own_files (core_of self.old.own).registers)
             (record { store = D.state store.old; out = O.state out.old; err = E.state err.old }) (record { store = D.state store.new; out = O.state out.new; err = E.state err.new }) }
         ensures moves { self.new.counts.moves ≡ self.old.counts.moves }
+        ensures caused { IsCaused self.new.end (record { store = D.state store.old; out = O.state out.old; err = E.state err.old }) (record { store = D.state store.new; out = O.state out.new; err = E.state err.new }) }
     {
         let plan = plan_of_own(&self.own, &self.own_files, &self.mem);
         self.perform(&plan, store, out, err)

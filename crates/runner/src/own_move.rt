@@ -4,6 +4,7 @@ ghost use Rattle.std.specs.Prelude.{◌≡◌, ◌≢◌, ◌+◌, ◌<◌, ◌�
 ghost use Rattle.hart_mem.specs.Held.{spare_of};
 ghost use Rattle.runner_parts.specs.Turns.{turn_if, turn_after};
 ghost use Rattle.runner_parts.specs.Counts.{AreBelow};
+ghost use Rattle.runner.specs.Causes.{IsCaused, TellsEnd};
 ghost use Rattle.runner.specs.Goes.{WantsPages};
 ghost use Rattle.runner.specs.OwnGoes.{MakesOwnWord, MakesOwnMove};
 
@@ -26,6 +27,7 @@ impl Runner {
         ensures makes { MakesOwnWord self.old self.new (record { store = D.state store.old; out = O.state out.old; err = E.state err.old })
             (record { store = D.state store.new; out = O.state out.new; err = E.state err.new }) }
         ensures moves { self.new.counts.moves ≡ self.old.counts.moves }
+        ensures caused { IsCaused self.new.end (record { store = D.state store.old; out = O.state out.old; err = E.state err.old }) (record { store = D.state store.new; out = O.state out.new; err = E.state err.new }) }
     {
         match self.own.view() {
             View::Stub => self.stub_word(store, out, err),
@@ -51,6 +53,8 @@ impl Runner {
         ensures turn { result ≢ Turn.NoMemory → result ≡ turn_if self.old.stalled (turn_after self.new.end) }
         ensures makes { result ≢ Turn.NoMemory → MakesOwnMove self.old self.new (record { store = D.state store.old; out = O.state out.old; err = E.state err.old })
             (record { store = D.state store.new; out = O.state out.new; err = E.state err.new }) }
+        ensures caused { IsCaused self.new.end (record { store = D.state store.old; out = O.state out.old; err = E.state err.old }) (record { store = D.state store.new; out = O.state out.new; err = E.state err.new }) }
+        ensures tells { TellsEnd result self.new.end }
     {
         if self.stalled {
             self.begin();

@@ -5,12 +5,15 @@ ghost use Rattle.spec_base.specs.Files.{Files as Contents};
 ghost use Rattle.run_model.specs.Run.{World, Run, Answer};
 ghost use Rattle.run_model.specs.OwnMoves.{own_call_step};
 ghost use Rattle.program_model.specs.Calls.{Set, Look as Looks, Exit};
+ghost use Rattle.world_io.specs.Outside.{SinkState};
 ghost use Rattle.world_io.specs.Logs.{StoreLog};
 ghost use Rattle.world_io.specs.Looks.{look_failed};
 ghost use Rattle.file_calls.specs.Plans.{changed, KeepsBreak};
 ghost use Rattle.runner_parts.specs.Answers.{failed_if};
 ghost use Rattle.runner_parts.specs.Heard.{said_by_look, AreTrueOf};
 ghost use Rattle.runner_parts.specs.OwnCalls.{call_told};
+ghost use Rattle.runner.specs.Causes.{IsCaused};
+ghost use Rattle.runner.specs.ShadowGoes.{beside};
 ghost use Rattle.runner.specs.Shows.{Shows};
 
 use crate::runner::Runner;
@@ -28,6 +31,7 @@ impl Runner {
         ensures shows { (w : World) (r : Run) → Shows self.old w r → Shows self.new w (call_told value.now r) }
         ensures counts { self.new.counts ≡ self.old.counts }
         ensures kept { (self.new.stalled ≡ self.old.stalled) × (self.new.own_files ≡ self.old.own_files) }
+        ensures end { self.new.end ≡ self.old.end }
     {
         let call = call_note(&self.own, value);
         self.notes.set(call);
@@ -41,6 +45,7 @@ impl Runner {
         requires since { self.old.counts.own_since < self.old.counts.moves }
         ensures shows { (w : World) (r : Run) (x : Answer) → Shows self.old w r → Shows self.new w (own_call_step w x r (Set (changed r.own.files change.now) value.now)) }
         ensures moves { self.new.counts.moves ≡ self.old.counts.moves }
+        ensures end { self.new.end ≡ self.old.end }
     {
         self.tell_call(value);
         self.answer_own(change, value);
@@ -57,6 +62,7 @@ impl Runner {
         ensures shows { (w : World) (r : Run) → Shows self.old w r → AreTrueOf w.files (said_by_look name.now result)
             → Shows self.new w (own_call_step w (failed_if (look_failed result)) r (Looks name.now)) }
         ensures moves { self.new.counts.moves ≡ self.old.counts.moves }
+        ensures caused { (out err : SinkState) → IsCaused self.new.end (beside (D.state store.old) out err) (beside (D.state store.new) out err) }
     {
         match store.look(name) {
             Look::Found(size) => {
@@ -83,6 +89,7 @@ impl Runner {
         requires since { self.old.counts.own_since < self.old.counts.moves }
         ensures shows { (w : World) (r : Run) (x : Answer) → Shows self.old w r → Shows self.new w (own_call_step w x r (Exit code)) }
         ensures moves { self.new.counts.moves ≡ self.old.counts.moves }
+        ensures end { self.new.end ≡ Some (End.Exit code) }
     {
         self.gathered = 0;
         self.complete();

@@ -2,13 +2,15 @@
 
 ghost use Rattle.std.specs.Prelude.{◌≡◌, ◌≤◌, ◌<◌, IsTrue, ℕ, false, None, take};
 ghost use Rattle.rv_model.specs.Memory.{all_from, bytes_at};
-ghost use Rattle.rv_model.specs.Data.{data_in};
+ghost use Rattle.rv_model.specs.Data.{data_in, memory_in};
 ghost use Rattle.run_model.specs.Run.{World, Run};
 ghost use Rattle.run_model.specs.OwnMoves.{own_call_step};
 ghost use Rattle.program_model.specs.Calls.{Write};
 ghost use Rattle.hart_mem.specs.Held.{space_of, data_byte};
 ghost use Rattle.runner_parts.specs.OwnCalls.{IsAtPlan, text_told, put_answer, TakesSome, Offers};
 ghost use Rattle.runner_parts.specs.Parts.{own_side, IsAtRest};
+ghost use Rattle.world_io.specs.Outside.{StoreState};
+ghost use Rattle.runner.specs.Causes.{IsCaused};
 ghost use Rattle.runner.specs.Shows.{Shows};
 
 use crate::runner::Runner;
@@ -35,6 +37,7 @@ impl Runner {
         ensures taken { TakesSome count result }
         ensures counts { self.new.counts ≡ self.old.counts }
         ensures kept { (self.new.own_files ≡ self.old.own_files) × (self.new.stalled ≡ self.old.stalled) × (self.new.end ≡ self.old.end) }
+        ensures puts { Offers to_out (bytes_at (memory_in (data_byte (space_of self.old.mem))) address count) (O.state out.old) (E.state err.old) result (O.state out.new) (E.state err.new) }
     {
         put_through(
             &self.mem,
@@ -54,6 +57,7 @@ impl Runner {
         ensures shows { (w : World) (r : Run) → (address : ℕ) → Shows self.old w r → take count self.old.staging.items ≡ bytes_at r.own.memory address count → Shows self.new w (text_told to_out taken address count r) }
         ensures counts { self.new.counts ≡ self.old.counts }
         ensures kept { (self.new.own_files ≡ self.old.own_files) × (self.new.stalled ≡ self.old.stalled) }
+        ensures end { self.new.end ≡ self.old.end }
     {
         let call = count_note(&self.own, taken as u64);
         tell_put(&mut self.notes, to_out, taken, call);
@@ -82,6 +86,7 @@ impl Runner {
         ensures offers { (w : World) (r : Run) → Shows self.old w r → Offers to_out (bytes_at r.own.memory address count) (O.state out.old) (E.state err.old) result (O.state out.new) (E.state err.new) }
         ensures taken { TakesSome count result }
         ensures moves { self.new.counts.moves ≡ self.old.counts.moves }
+        ensures caused { (store : StoreState) → IsCaused self.new.end (record { store = store; out = O.state out.old; err = E.state err.old }) (record { store = store; out = O.state out.new; err = E.state err.new }) }
     {
         let put = self.offer(to_out, address, count, out, err);
         match put {

@@ -35,6 +35,7 @@ impl Runner {
         ensures quiet { self.new.text ≡ 0 }
         ensures counts { self.new.counts ≡ self.old.counts }
         ensures kept { (self.new.mem ≡ self.old.mem) × (self.new.own ≡ self.old.own) × (self.new.own_files ≡ self.old.own_files) }
+        ensures end { self.new.end ≡ self.old.end }
     {
         let had = need_rest(
             &mut self.cache,
@@ -53,6 +54,7 @@ impl Runner {
         requires few { self.old.counts.stalls < self.old.counts.moves }
         ensures shows { (w : World) (r : Run) → Shows self.old w r → r.cache.demanded ≡ Some block → Shows self.new w (stall_told r) }
         ensures moves { self.new.counts.moves ≡ self.old.counts.moves }
+        ensures end { self.new.end ≡ self.old.end }
     {
         self.counts.stall();
         self.notes.set(Note::Stall(block));
@@ -67,6 +69,7 @@ impl Runner {
         requires goes { self.old.stalled ≡ false }
         ensures shows { (w : World) (r : Run) (d : ℕ) → Shows self.old w r → IsAtPlan w r (Read d spot.now address) → length (bytes_read w.files spot.now) ≡ spot.now.count → Shows self.new w (read_filled w spot.now address r) }
         ensures kept { (self.new.counts ≡ self.old.counts) × (self.new.own ≡ self.old.own) × (self.new.own_files ≡ self.old.own_files) × (self.new.stalled ≡ self.old.stalled) }
+        ensures end { self.new.end ≡ self.old.end }
     {
         fill_staged(&mut self.mem, spot, address, &self.staging);
         self.gathered = 0;
@@ -79,6 +82,7 @@ impl Runner {
         ensures shows { (w : World) (r : Run) → Shows self.old w r → Shows self.new w (read_told spot.now r) }
         ensures counts { self.new.counts ≡ one_read self.old.asked self.old.counts }
         ensures kept { (self.new.mem ≡ self.old.mem) × (self.new.own ≡ self.old.own) × (self.new.own_files ≡ self.old.own_files) × (self.new.stalled ≡ self.old.stalled) × (self.new.gathered ≡ self.old.gathered) }
+        ensures end { self.new.end ≡ self.old.end }
     {
         let call = count_note(&self.own, spot.count);
         tell_read(&mut self.notes, self.asked, spot, call);
@@ -96,6 +100,7 @@ impl Runner {
         ensures shows { (w : World) (r : Run) (x : Answer) → Shows self.old w r → IsAtPlan w r (Read (reg r.own.registers 10) spot.now address)
             → length (bytes_read w.files spot.now) ≡ spot.now.count → Shows self.new w (own_call_step w x r (Read (reg r.own.registers 10) spot.now address)) }
         ensures moves { self.new.counts.moves ≡ self.old.counts.moves }
+        ensures end { self.new.end ≡ self.old.end }
     {
         match self.gather(spot) {
             Some(block) => self.stall(block),

@@ -19,6 +19,7 @@ impl Runner {
         requires begun { AreBelow self.old.counts }
         ensures shows { (w : World) (r : Run) → Shows self.old w r → IsAtRest (own_side r) r.cache → TrueSizes w.files r.own.files → Shows self.new w (restarted_from w r) }
         ensures moves { self.new.counts.moves ≡ self.old.counts.moves }
+        ensures end { self.new.end ≡ self.old.end }
     {
         let plan = plan_of_own(&self.own, &self.own_files, &self.mem);
         self.shadow_files = self.own_files;

@@ -23,6 +23,7 @@ impl Runner {
         ensures shows { (w : World) (r : Run) → Shows self.old w r → Shows self.new w (parked r cause) }
         ensures counts { self.new.counts ≡ self.old.counts }
         ensures mem { self.new.mem ≡ self.old.mem }
+        ensures end { self.new.end ≡ self.old.end }
     {
         self.state = ShadowState::Parked(cause);
         self.notes.set(Note::Park(cause));
@@ -33,6 +34,7 @@ impl Runner {
         requires since { self.old.counts.shadow_since < self.old.counts.moves }
         ensures shows { (w : World) (r : Run) → Shows self.old w r → Shows self.new w (arrived w.image.layout r) }
         ensures moves { self.new.counts.moves ≡ self.old.counts.moves }
+        ensures end { self.new.end ≡ self.old.end }
     {
         if arrives(&self.state, &self.shadow, &self.mem) {
             self.counts.arrive();
@@ -43,6 +45,7 @@ impl Runner {
     fn count_word(&mut self)
         ensures shows { (w : World) (r : Run) → Shows self.old w r → Shows self.new w (word_counted r) }
         ensures moves { self.new.counts.moves ≡ self.old.counts.moves }
+        ensures end { self.new.end ≡ self.old.end }
     {
         self.counts.use_regions(regions_in_use(&self.mem));
     }
@@ -52,6 +55,7 @@ impl Runner {
         requires since { self.old.counts.shadow_since < self.old.counts.moves }
         ensures shows { (w : World) (r : Run) → Shows self.old w r → Shows self.new w (word_counted (arrived w.image.layout r)) }
         ensures moves { self.new.counts.moves ≡ self.old.counts.moves }
+        ensures end { self.new.end ≡ self.old.end }
     {
         self.arrive();
         self.count_word();
@@ -61,6 +65,7 @@ impl Runner {
     fn park_word(&mut self, cause: Park)
         ensures shows { (w : World) (r : Run) → Shows self.old w r → Shows self.new w (word_counted (parked r cause)) }
         ensures moves { self.new.counts.moves ≡ self.old.counts.moves }
+        ensures end { self.new.end ≡ self.old.end }
     {
         self.park(cause);
         self.count_word();
@@ -70,6 +75,7 @@ impl Runner {
     fn key(&mut self, rd: Reg)
         ensures shows { (w : World) (r : Run) → Shows self.old w r → Shows self.new w (shadow_at r (with_reg r.shadow.registers rd (key_of (shadow_plan w r))) (after r.shadow.pc)) }
         ensures counts { self.new.counts ≡ self.old.counts }
+        ensures end { self.new.end ≡ self.old.end }
     {
         let key = key_of_shadow(&self.shadow, &self.shadow_files, &self.mem);
         self.shadow.answer(rd, key);
@@ -79,6 +85,7 @@ impl Runner {
     fn step_shadow(&mut self) -> Event
         ensures steps { (w : World) (r : Run) → Accepted w → Shows self.old w r → r.shadow.state ≡ Running → StepsTo result self.new w r }
         ensures kept { (self.new.counts ≡ self.old.counts) × (self.new.notes ≡ self.old.notes) }
+        ensures end { self.new.end ≡ self.old.end }
     {
         advance(&mut self.shadow, &mut self.mem)
     }
@@ -89,6 +96,7 @@ impl Runner {
         ensures word { (w : World) (r : Run) → Accepted w → Shows self.old w r → r.shadow.state ≡ Running → WordTold result self.new w r }
         ensures moves { self.new.counts.moves ≡ self.old.counts.moves }
         ensures kept { result ≢ None → (self.new.counts ≡ self.old.counts) × (self.new.notes ≡ self.old.notes) }
+        ensures end { self.new.end ≡ self.old.end }
     {
         match self.step_shadow() {
             Event::Done => {

@@ -1,6 +1,6 @@
 //! A move of the shadow.
 
-ghost use Rattle.std.specs.Prelude.{◌≡◌, ◌+◌, ◌<◌, ◌^◌, ◌||◌, [], None, not};
+ghost use Rattle.std.specs.Prelude.{◌≡◌, ◌+◌, ◌<◌, ◌≤◌, ◌^◌, ◌||◌, [], None, not};
 ghost use Rattle.spec_base.specs.declared.note.Move.TheVariants as move;
 ghost use Rattle.run_model.specs.ShadowMoves.{is_running};
 ghost use Rattle.runner_parts.specs.Counts.{AreBelow};
@@ -18,6 +18,8 @@ impl Runner {
         requires quiet { self.old.notes ≡ [] }
         ensures makes { MakesWord self.old self.new (D.state store.old) (D.state store.new) }
         ensures moves { self.new.counts.moves ≡ self.old.counts.moves }
+        ensures end { self.new.end ≡ self.old.end }
+        ensures later { (D.state store.old).faults ≤ (D.state store.new).faults }
     {
         match self.shadow_word() {
             Some(unhinted) => {
@@ -35,6 +37,8 @@ impl Runner {
         ensures turn { result ≡ turn_if (not (is_running self.old.state)) (turn_after self.new.end) }
         ensures moves { self.new.counts.moves ≡ self.old.counts.moves + 1 }
         ensures makes { MakesStep move.S self.old self.new (D.state store.old) (D.state store.new) }
+        ensures end { self.new.end ≡ self.old.end }
+        ensures later { (D.state store.old).faults ≤ (D.state store.new).faults }
     {
         self.begin();
         if !runs(&self.state) {
@@ -51,6 +55,8 @@ impl Runner {
         ensures turn { result ≡ turn_if (not self.old.stalled || not (is_running self.old.state)) (turn_after self.new.end) }
         ensures moves { self.new.counts.moves ≡ self.old.counts.moves + 1 }
         ensures makes { MakesStep move.T self.old self.new (D.state store.old) (D.state store.new) }
+        ensures end { self.new.end ≡ self.old.end }
+        ensures later { (D.state store.old).faults ≤ (D.state store.new).faults }
     {
         if !self.stalled {
             self.begin();

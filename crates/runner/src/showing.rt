@@ -150,6 +150,7 @@ impl Runner {
         ensures ok { OnOk result (spare_of self.new.mem ≡ max (spare_of self.old.mem) pages) }
         ensures err { OnErr result (self.new ≡ self.old) }
         ensures counts { self.new.counts ≡ self.old.counts }
+        ensures end { self.new.end ≡ self.old.end }
     {
         self.mem.reserve(pages)
     }

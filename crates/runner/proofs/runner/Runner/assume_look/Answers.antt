@@ -47,3 +47,12 @@ returns-in-Failed-clause-looks g c unhinted =
       hears = store-looked c.args.name.now look.Failed _ _ c.in-Failed.ensures.keeps c.in-Failed.ensures.failed c.in-Failed.ensures.number;
       shows = λ w r h all sizes ok said. c.park.ensures.shows w r h;
     }
+
+pub returns-in-Found-clause-later : goal.returns-in-Found-clause-later
+returns-in-Found-clause-later g c = c.in-Found.ensures.keeps.later
+
+pub returns-in-Absent-clause-later : goal.returns-in-Absent-clause-later
+returns-in-Absent-clause-later g c = c.in-Absent.ensures.keeps.later
+
+pub returns-in-Failed-clause-later : goal.returns-in-Failed-clause-later
+returns-in-Failed-clause-later g c = c.in-Failed.ensures.keeps.later

@@ -13,6 +13,7 @@ use Rattle.runner.proofs.FetchSteps.{idle-finish, asks-fetch, step-fetch}
 use Rattle.runner.proofs.Hearing.{store-finished}
 use Rattle.runner.proofs.Moved.{shows-as, still-none}
 use Rattle.runner.proofs.ShadowSteps.{answers-as}
+use Rattle.runner.proofs.Causes.{finish-caused, finish-tells}
 use Rattle.runner.proofs.runner.Runner.fetch_move.Goals as goal
 
 pub returns-clause-turn : goal.returns-clause-turn
@@ -39,3 +40,10 @@ returns-clause-makes g c =
           let goes : r.end ≡ None = still-none r.end (sym h.end ∙ c.requires.on) in
           shows-as _ w _ _ (step-fetch w r goes (finish_answer f)) (m.shows w (begun r) (c.begin.ensures.shows w r h) said);
     }
+
+pub returns-clause-caused : goal.returns-clause-caused
+returns-clause-caused g c out err =
+    finish-caused c.finish_any-finished.result _ _ _ out err c.finish_any-finished.ensures.end c.finish_any-finished.ensures.keeps.later c.finish_any-finished.ensures.failed
+
+pub returns-clause-tells : goal.returns-clause-tells
+returns-clause-tells g c = finish-tells c.finish_any-finished.result c.turn_of_finish.result c.finish_any-finished.new.self.end c.turn_of_finish.ensures c.finish_any-finished.ensures.end

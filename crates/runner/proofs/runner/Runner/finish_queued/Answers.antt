@@ -7,6 +7,7 @@ use Rattle.cache_queue.specs.Finishes.{IsOf, finished}
 use Rattle.runner_parts.specs.Answers.{finish_notes}
 use Rattle.runner_parts.specs.Parts.{own_side}
 use Rattle.runner_parts.proofs.Finishes.{queued-finish, gathers-same}
+use Rattle.runner.proofs.Causes.{queued-end}
 use Rattle.runner.proofs.Moved.{shows-as}
 use Rattle.runner.proofs.runner.Runner.finish_queued.Goals as goal
 
@@ -44,3 +45,6 @@ returns-clause-finishes g c =
             text = h.text;
           });
     }
+
+pub returns-clause-end : goal.returns-clause-end
+returns-clause-end g c = c.requires.on ∙ queued-end (lists c.args.self.now.cache) c.finish_beside-finished.result c.requires.idle c.finish_beside-finished.ensures.block

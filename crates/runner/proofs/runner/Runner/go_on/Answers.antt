@@ -9,6 +9,7 @@ use Rattle.runner.proofs.MovesMade.{made-as, made-of, made-own, never-starved, s
 use Rattle.plain_runner.specs.Runs.{Outside}
 use Rattle.runner_parts.specs.declared.turn.Turn.TheVariants.{NoMemory}
 use Rattle.runner.specs.declared.runner.Runner.{Runner}
+use Rattle.runner.proofs.Causes.{going-caused, beside-later, tells-as}
 use Rattle.runner.proofs.runner.Runner.go_on.Goals as goal
 
 pub returns-in-O-clause-makes : goal.returns-in-O-clause-makes
@@ -62,3 +63,18 @@ returns-in-T-clause-files g c = c.stalled_move.ensures.makes.files
 
 pub returns-in-D-clause-files : goal.returns-in-D-clause-files
 returns-in-D-clause-files g c = c.fetch_move.ensures.makes.files
+
+pub returns-in-S-clause-caused : goal.returns-in-S-clause-caused
+returns-in-S-clause-caused g c = going-caused _ _ _ (c.shadow_move.ensures.end ∙ c.requires.on) (beside-later _ _ _ _ c.shadow_move.ensures.later)
+
+pub returns-in-S-clause-end : goal.returns-in-S-clause-end
+returns-in-S-clause-end g c = tells-as c.shadow_move.result (not (is_running c.args.self.now.state)) c.shadow_move.new.self.end c.shadow_move.ensures.turn (λ idle. c.shadow_move.ensures.end ∙ c.requires.on)
+
+pub returns-in-T-clause-caused : goal.returns-in-T-clause-caused
+returns-in-T-clause-caused g c = going-caused _ _ _ (c.stalled_move.ensures.end ∙ c.requires.on) (beside-later _ _ _ _ c.stalled_move.ensures.later)
+
+pub returns-in-T-clause-end : goal.returns-in-T-clause-end
+returns-in-T-clause-end g c = tells-as c.stalled_move.result (not c.args.self.now.stalled || not (is_running c.args.self.now.state)) c.stalled_move.new.self.end c.stalled_move.ensures.turn (λ idle. c.stalled_move.ensures.end ∙ c.requires.on)
+
+pub returns-in-D-clause-caused : goal.returns-in-D-clause-caused
+returns-in-D-clause-caused g c = c.fetch_move.ensures.caused (g.O.Sink.state c.args.out.now) (g.E.Sink.state c.args.err.now)

@@ -1,4 +1,4 @@
-use Rattle.std.proofs.Common.{◌≡◌, ℕ, ℤ, Option, Some, None, sym, ap, ◌∙◌}
+use Rattle.std.proofs.Common.{◌≡◌, ℕ, ℤ, Option, Some, None, sym, ap, ◌∙◌, refl}
 use Rattle.program_model.specs.Descriptors.{Descriptors}
 use Rattle.program_model.specs.Calls.{Set, opened}
 use Rattle.program_model.specs.PlainRun.{size_in}
@@ -9,6 +9,7 @@ use Rattle.world_io.proofs.Stores.{look-StoreLog}
 use Rattle.file_calls.specs.Plans.{changed}
 use Rattle.runner.proofs.Hearing.{look-told, said-size}
 use Rattle.runner.proofs.Moved.{shows-as}
+use Rattle.runner.proofs.Causes.{going-caused, beside-later, store-caused}
 use Rattle.runner.proofs.runner.Runner.own_look.Goals as goal
 
 pub returns-in-Found-clause-told : goal.returns-in-Found-clause-told
@@ -45,3 +46,12 @@ returns-in-Absent-clause-shows g c w r h said =
     let plain : Descriptors × ℤ = opened r.own.files c.args.name.now None in
     shows-as _ w _ (own_call_step w Usual r (Set plain.0 plain.1))
     (ap (λ (o : Option ℕ). own_call_step w Usual r (Set (opened r.own.files c.args.name.now o).0 (opened r.own.files c.args.name.now o).1)) none) (c.own_set-in-Absent.ensures.shows w r Usual h)
+
+pub returns-in-Found-clause-caused : goal.returns-in-Found-clause-caused
+returns-in-Found-clause-caused g c out err = going-caused _ _ _ (c.own_set.ensures.end ∙ c.requires.on) (beside-later _ _ out err c.in-Found.ensures.keeps.later)
+
+pub returns-in-Absent-clause-caused : goal.returns-in-Absent-clause-caused
+returns-in-Absent-clause-caused g c out err = going-caused _ _ _ (c.own_set-in-Absent.ensures.end ∙ c.requires.on) (beside-later _ _ out err c.in-Absent.ensures.keeps.later)
+
+pub returns-in-Failed-clause-caused : goal.returns-in-Failed-clause-caused
+returns-in-Failed-clause-caused g c out err = store-caused _ _ _ out err c.stop.ensures.end c.in-Failed.ensures.keeps.later (c.in-Failed.ensures.failed refl)

@@ -1,4 +1,4 @@
-use Rattle.std.proofs.Common.{[], refl, sym, ◌∙◌}
+use Rattle.std.proofs.Common.{[], refl, sym, ◌∙◌, Option, subst}
 use Rattle.run_model.specs.Run.{Usual}
 use Rattle.run_model.specs.Moves.{begun}
 use Rattle.run_model.specs.OwnMoves.{own_in}
@@ -8,6 +8,9 @@ use Rattle.runner.specs.OwnGoes.{word_asks}
 use Rattle.runner.proofs.Moved.{shows-as, still-none}
 use Rattle.runner.proofs.Outside.{hears-nothing, said-nothing}
 use Rattle.runner.proofs.OwnMoves.{stalled-asks, word-asks, stalled-step, word-step, answered-as}
+use Rattle.runner.proofs.Causes.{still-caused, tells-after}
+use Rattle.runner.specs.Causes.{TellsEnd}
+use Rattle.runner_parts.specs.declared.turn.Turn.{Turn}
 use Rattle.runner.proofs.runner.Runner.own_move.Goals as goal
 
 pub returns-then-self-clause-makes : goal.returns-then-self-clause-makes
@@ -39,3 +42,9 @@ returns-clause-makes g c made =
           shows-as c.own_word.new.self w _ (own_in r.view w p.answer (begun r)) (word-step w r (still-none r.end (sym h.end ∙ c.requires.on)) p.answer (sym h.own.stalled_is ∙ c.if-self.false))
           (p.shows w (begun r) a (c.begin-2.ensures.shows w r h) sizes said);
     }
+
+pub returns-then-self-clause-caused : goal.returns-then-self-clause-caused
+returns-then-self-clause-caused g c = still-caused _ _ (c.begin.ensures.end ∙ c.requires.on)
+
+pub returns-clause-tells : goal.returns-clause-tells
+returns-clause-tells g c = subst (λ (t : Turn). TellsEnd t c.own_word.new.self.end) (sym c.turn_after.ensures) (tells-after c.own_word.new.self.end)

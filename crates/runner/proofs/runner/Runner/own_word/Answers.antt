@@ -16,6 +16,7 @@ use Rattle.runner.specs.declared.runner.Runner.{Runner}
 use Rattle.runner.proofs.Moved.{shows-as, view-is}
 use Rattle.runner.proofs.Outside.{hears-if, said-nothing}
 use Rattle.runner.proofs.Words.{no-view}
+use Rattle.runner.proofs.Causes.{still-caused}
 use Rattle.runner.proofs.runner.Runner.own_word.Goals as goal
 
 pub returns-in-Program-clause-makes : goal.returns-in-Program-clause-makes
@@ -49,3 +50,9 @@ returns-in_default-clause-makes g c =
       hears = λ w r a h. absurd (none w r h);
       shows = λ w r a h sizes said. absurd (none w r h);
     }
+
+pub returns-in-Program-clause-caused : goal.returns-in-Program-clause-caused
+returns-in-Program-clause-caused g c = c.program_word.ensures.caused _
+
+pub returns-in_default-clause-caused : goal.returns-in_default-clause-caused
+returns-in_default-clause-caused g c = still-caused _ _ c.requires.on

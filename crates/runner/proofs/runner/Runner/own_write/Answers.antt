@@ -2,6 +2,7 @@ use Rattle.std.proofs.Common.{◌≡◌, ℕ, max, min, pos, [], inl, refl, ap, 
 use Rattle.program_model.specs.Calls.{Write}
 use Rattle.run_model.specs.Run.{Run, SinkFailed}
 use Rattle.world_io.specs.declared.sink.Put.{Put}
+use Rattle.world_io.specs.declared.sink.Put.TheVariants as put
 use Rattle.run_model.specs.OwnMoves.{write_done, ended, own_call_step}
 use Rattle.machine_laws.specs.OneMachine.{space_of_run}
 use Rattle.runner_parts.specs.OwnCalls.{text_told, put_in, call_answered, put_answer}
@@ -10,6 +11,10 @@ use Rattle.runner.specs.Shows.{Shows}
 use Rattle.runner.proofs.Moved.{shows-as}
 use Rattle.runner.proofs.Puts.{shows-put, write-is}
 use Rattle.runner_parts.proofs.ReadFronts.{rest-other}
+use Rattle.runner.proofs.Causes.{took-caused, put-caused}
+use Rattle.rv_model.specs.Memory.{bytes_at}
+use Rattle.rv_model.specs.Data.{memory_in}
+use Rattle.hart_mem.specs.Held.{space_of, data_byte}
 use Rattle.runner.proofs.runner.Runner.own_write.Goals as goal
 
 pub returns-in-Took-clause-shows : goal.returns-in-Took-clause-shows
@@ -48,3 +53,10 @@ returns-in-Failed-clause-shows g c w r q at =
       notes = c.clear.ensures;
       text = h.text;
     })
+
+pub returns-in-Took-clause-caused : goal.returns-in-Took-clause-caused
+returns-in-Took-clause-caused g c store =
+    took-caused c.args.to_out (bytes_at (memory_in (data_byte (space_of c.args.self.now.mem))) c.args.address c.args.count) (put.Took c.in-Took.taken) _ _ _ (c.answer_count.ensures.end ∙ c.tell_write.ensures.end ∙ c.in-Took.ensures.kept.2 ∙ c.requires.on) refl c.in-Took.ensures.puts
+
+pub returns-in-Failed-clause-caused : goal.returns-in-Failed-clause-caused
+returns-in-Failed-clause-caused g c store = put-caused c.args.to_out (bytes_at (memory_in (data_byte (space_of c.args.self.now.mem))) c.args.address c.args.count) _ _ _ refl refl c.in-Failed.ensures.puts

@@ -22,6 +22,7 @@ use Rattle.runner_parts.specs.OwnCalls.{put_answer, TakesSome}
 use Rattle.runner_parts.specs.Requests.{IsAnswered}
 use Rattle.runner.proofs.Outside.{hears-nothing, hears-look, hears-put, said-nothing}
 use Rattle.runner.proofs.Moved.{shows-as}
+use Rattle.runner.proofs.Causes.{still-caused, exit-caused}
 use Rattle.runner.proofs.runner.Runner.perform.Goals as goal
 
 pub returns-in-Set-clause-performs : goal.returns-in-Set-clause-performs
@@ -130,3 +131,18 @@ own_write-requires-clause-data g c =
     let n : ℕ = c.in-Write.count in
     let on : IsTrue (all_from (is_data sp.layout) a n) = subst (λ (p : PlannedCall). IsOnData (is_data sp.layout) (made c.args.self.now.own_files p)) c.in-Write.is c.requires.data in
     subst (λ (t : ℕ → Bool). IsTrue (all_from t a n)) (sym (data-is sp)) on
+
+pub returns-in-Set-clause-caused : goal.returns-in-Set-clause-caused
+returns-in-Set-clause-caused g c = still-caused _ _ (c.own_set.ensures.end ∙ c.requires.on)
+
+pub returns-in-Open-clause-caused : goal.returns-in-Open-clause-caused
+returns-in-Open-clause-caused g c = c.own_look.ensures.caused (g.O.Sink.state c.args.out.now) (g.E.Sink.state c.args.err.now)
+
+pub returns-in-Read-clause-caused : goal.returns-in-Read-clause-caused
+returns-in-Read-clause-caused g c = still-caused _ _ (c.own_read.ensures.end ∙ c.requires.on)
+
+pub returns-in-Write-clause-caused : goal.returns-in-Write-clause-caused
+returns-in-Write-clause-caused g c = c.own_write.ensures.caused (g.D.Store.state c.args.store.now)
+
+pub returns-in-Exit-clause-caused : goal.returns-in-Exit-clause-caused
+returns-in-Exit-clause-caused g c = exit-caused _ c.in-Exit.code _ c.own_exit.ensures.end

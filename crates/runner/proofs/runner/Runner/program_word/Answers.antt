@@ -1,4 +1,4 @@
-use Rattle.std.proofs.Common.{refl, arith}
+use Rattle.std.proofs.Common.{refl, arith, ◌∙◌}
 use Rattle.rv_model.specs.Space.{Space}
 use Rattle.machine_laws.specs.OneMachine.{space_of_run}
 use Rattle.hart_mem.specs.Held.{space_of}
@@ -10,6 +10,7 @@ use Rattle.runner_parts.specs.Parts.{IsAtRest, own_side}
 use Rattle.runner.specs.declared.runner.Runner.{Runner}
 use Rattle.runner.proofs.Moved.{shows-as, cache-at_rest}
 use Rattle.runner.proofs.Words.{program-goes, program-rests, own-after, cache-after, no_other}
+use Rattle.runner.proofs.Causes.{still-caused, trap-caused}
 use Rattle.runner.proofs.runner.Runner.program_word.Goals as goal
 
 pub returns-in-Done-clause-shows : goal.returns-in-Done-clause-shows
@@ -85,3 +86,15 @@ returns-in_default-clause-shows c w r x a h =
     let t : Space = space_of c.step.new.mem in
     let goes : ProgramGoes c.step.result w r new t = program-goes v w r a h c.requires.program c.step.result new t c.step.ensures.outcome in
     absurd (no_other w r new t c.step.result c.in_default.not-Done c.in_default.not-Gate c.in_default.not-Trap (λ e. absurd (omega (arith, c.step.ensures.starved e, c.requires.spare))) goes.leads)
+
+pub returns-in-Done-clause-caused : goal.returns-in-Done-clause-caused
+returns-in-Done-clause-caused c now = still-caused _ now (c.complete.ensures.end ∙ c.requires.on)
+
+pub returns-in-Gate-clause-caused : goal.returns-in-Gate-clause-caused
+returns-in-Gate-clause-caused c now = still-caused _ now c.requires.on
+
+pub returns-in-Trap-clause-caused : goal.returns-in-Trap-clause-caused
+returns-in-Trap-clause-caused c now = trap-caused _ c.in-Trap.cause _ now c.trap.ensures.end
+
+pub returns-in_default-clause-caused : goal.returns-in_default-clause-caused
+returns-in_default-clause-caused c now = still-caused _ now c.requires.on

@@ -29,6 +29,7 @@ use Rattle.runner.specs.declared.runner.Runner.{Runner}
 use Rattle.runner.proofs.Moved.{shows-as, view-is}
 use Rattle.runner.proofs.Outside.{hears-if, hears-on, said-nothing}
 use Rattle.runner.proofs.Words.{stub-goes, stub-rests, own-after, cache-after, rests-after, hart-stays, space-stays, meets-call, no_other_in_stub, and-false}
+use Rattle.runner.proofs.Causes.{still-caused, trap-caused}
 use Rattle.runner.proofs.runner.Runner.stub_word.Goals as goal
 
 pub returns-in-Done-clause-makes : goal.returns-in-Done-clause-makes
@@ -331,3 +332,27 @@ returns-in_default-clause-makes g c =
       hears = λ w r a h. absurd (none w r a h);
       shows = λ w r a h sizes said. absurd (none w r a h);
     }
+
+pub returns-in-Done-clause-caused : goal.returns-in-Done-clause-caused
+returns-in-Done-clause-caused g c = still-caused _ _ c.requires.on
+
+pub returns-in-Leave-clause-caused : goal.returns-in-Leave-clause-caused
+returns-in-Leave-clause-caused g c = still-caused _ _ c.requires.on
+
+pub returns-in-Key-clause-caused : goal.returns-in-Key-clause-caused
+returns-in-Key-clause-caused g c = still-caused _ _ (c.own_key.ensures.end ∙ c.requires.on)
+
+pub returns-in-Stop-clause-caused : goal.returns-in-Stop-clause-caused
+returns-in-Stop-clause-caused g c = still-caused _ _ c.requires.on
+
+pub returns-in-Restart-clause-caused : goal.returns-in-Restart-clause-caused
+returns-in-Restart-clause-caused g c = still-caused _ _ (c.restart.ensures.end ∙ c.requires.on)
+
+pub returns-in-Trap-clause-caused : goal.returns-in-Trap-clause-caused
+returns-in-Trap-clause-caused g c = trap-caused _ c.in-Trap.cause _ _ c.trap.ensures.end
+
+pub returns-in-Call-clause-caused : goal.returns-in-Call-clause-caused
+returns-in-Call-clause-caused g c = c.own_call.ensures.caused
+
+pub returns-in_default-clause-caused : goal.returns-in_default-clause-caused
+returns-in_default-clause-caused g c = still-caused _ _ c.requires.on
