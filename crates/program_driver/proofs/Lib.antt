@@ -1,5 +1,6 @@
 mod Rounding
 mod Driven
+mod Causes
 mod Lining
 mod Traced
 mod Turning

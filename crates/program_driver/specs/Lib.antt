@@ -1,5 +1,6 @@
 pub mod Rounds
 pub mod Advances
+pub mod Causes
 pub mod Lines
 pub mod Runs
 pub mod Traces

@@ -1,9 +1,11 @@
 //! One move of a runner.
 
-ghost use Rattle.std.specs.Prelude.{◌≡◌, ◌≤◌, ◌<◌, ◌+◌, ◌^◌};
+ghost use Rattle.std.specs.Prelude.{◌≡◌, ◌≤◌, ◌<◌, ◌+◌, ◌^◌, None, IfSome};
 ghost use Rattle.run_model.specs.Run.{World, Run};
+ghost use Rattle.runner.specs.Causes.{IsLater};
 ghost use Rattle.runner.specs.Shows.{Shows};
 ghost use Rattle.program_driver.specs.Advances.{Advances, ending_in, ending_after, is_starved};
+ghost use Rattle.program_driver.specs.Causes.{HasCause};
 
 use plain_runner::Ending;
 use runner::Runner;
@@ -18,6 +20,7 @@ const PAGES: usize = 17;
 fn keep_spare(runner: &mut Runner) -> bool
     ensures shows { (w : World) (r : Run) → Shows runner.old w r → Shows runner.new w r }
     ensures counts { runner.new.counts ≡ runner.old.counts }
+    ensures end { runner.new.end ≡ runner.old.end }
 {
     runner.spare() >= PAGES || runner.reserve(PAGES).is_ok()
 }
@@ -77,6 +80,11 @@ pub fn advance<D: Store, O: Sink, E: Sink>(
     ensures advances { Advances step result runner.old runner.new
         (record { store = D.state store.old; out = O.state out.old; err = E.state err.old })
         (record { store = D.state store.new; out = O.state out.new; err = E.state err.new }) }
+    ensures later { IsLater (record { store = D.state store.old; out = O.state out.old; err = E.state err.old })
+        (record { store = D.state store.new; out = O.state out.new; err = E.state err.new }) }
+    ensures cause { runner.old.end ≡ None → IfSome result (λ ending. HasCause ending (record { store = D.state store.old; out = O.state out.old; err = E.state err.old })
+        (record { store = D.state store.new; out = O.state out.new; err = E.state err.new })) }
+    ensures goes_on { result ≡ None → runner.new.end ≡ None }
 {
     if !keep_spare(runner) {
         return Some(Ending::NoMemory);

@@ -1,9 +1,11 @@
 //! The moves of a pattern.
 
-ghost use Rattle.std.specs.Prelude.{◌≡◌, ◌≤◌, ◌+◌, ◌^◌, length};
+ghost use Rattle.std.specs.Prelude.{◌≡◌, ◌≤◌, ◌+◌, ◌^◌, length, None, IfSome};
 ghost use Rattle.command_words.specs.Limits.{IsPattern};
+ghost use Rattle.runner.specs.Causes.{IsLater};
 ghost use Rattle.run_promises.specs.Schedules.{MovesTo};
 ghost use Rattle.plain_runner.specs.Runs.{Outside};
+ghost use Rattle.program_driver.specs.Causes.{HasCause};
 ghost use Rattle.program_driver.specs.Progress.{MakesStretch, MakesFront};
 ghost use Rattle.program_driver.specs.Runs.{Drives};
 
@@ -29,6 +31,11 @@ fn drive_stretch<D: Store, O: Sink, E: Sink>(
     ensures goes { MakesStretch step count result runner.old runner.new
         (record { store = D.state store.old; out = O.state out.old; err = E.state err.old })
         (record { store = D.state store.new; out = O.state out.new; err = E.state err.new }) }
+    ensures later { IsLater (record { store = D.state store.old; out = O.state out.old; err = E.state err.old })
+        (record { store = D.state store.new; out = O.state out.new; err = E.state err.new }) }
+    ensures cause { runner.old.end ≡ None → IfSome result (λ ending. HasCause ending (record { store = D.state store.old; out = O.state out.old; err = E.state err.old })
+        (record { store = D.state store.new; out = O.state out.new; err = E.state err.new })) }
+    ensures goes_on { runner.old.end ≡ None → result ≡ None → runner.new.end ≡ None }
 {
     for made in 0..count {
         if runner.rests(step) {
@@ -72,8 +79,12 @@ pub fn drive<D: Store, O: Sink, E: Sink>(
 ) -> Ending
     requires pattern { IsPattern pattern.now }
     requires few { runner.old.counts.moves + turns ≤ 2 ^ 63 }
-    ensures { Drives (MovesTo pattern.now turns result) runner.old runner.new
+    ensures drives { Drives (MovesTo pattern.now turns result) runner.old runner.new
         (record { store = D.state store.old; out = O.state out.old; err = E.state err.old })
+        (record { store = D.state store.new; out = O.state out.new; err = E.state err.new }) }
+    ensures later { IsLater (record { store = D.state store.old; out = O.state out.old; err = E.state err.old })
+        (record { store = D.state store.new; out = O.state out.new; err = E.state err.new }) }
+    ensures cause { runner.old.end ≡ None → HasCause result (record { store = D.state store.old; out = O.state out.old; err = E.state err.old })
         (record { store = D.state store.new; out = O.state out.new; err = E.state err.new }) }
 {
     let mut schedule = Schedule::new(pattern, turns);

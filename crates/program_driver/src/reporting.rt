@@ -1,10 +1,12 @@
 //! A run with its report.
 
-ghost use Rattle.std.specs.Prelude.{◌≡◌, ◌≤◌, ◌+◌, ◌^◌, ◌∷◌, []};
+ghost use Rattle.std.specs.Prelude.{◌≡◌, ◌≤◌, ◌+◌, ◌^◌, ◌∷◌, [], None};
 ghost use Rattle.trace_text.specs.Report.{report_of};
 ghost use Rattle.run_model.specs.Run.{World, Run};
 ghost use Rattle.command_words.specs.Limits.{IsPattern};
 ghost use Rattle.runner.specs.Shows.{Shows};
+ghost use Rattle.runner.specs.Causes.{IsLater};
+ghost use Rattle.program_driver.specs.Causes.{HasCause, CountsLines};
 ghost use Rattle.program_driver.specs.Lines.{LinesTo};
 ghost use Rattle.program_driver.specs.Runs.{Drives, RunsTo, counts_of, is_reported};
 
@@ -52,13 +54,15 @@ fn is_reported(asked: bool, ending: Ending) -> bool
 
 /// Puts the line of the report.
 fn put_report<E: Sink>(alloc: Global, runner: &Runner, err: &mut E) -> Result<(), LineFault>
-    ensures { (w : World) (r : Run) → Shows runner.now w r → LinesTo (report_of (counts_of r) ∷ []) result (E.state err.old) (E.state err.new) }
+    ensures line { (w : World) (r : Run) → Shows runner.now w r → LinesTo (report_of (counts_of r) ∷ []) result (E.state err.old) (E.state err.new) }
+    ensures counts { CountsLines result (E.state err.old) (E.state err.new) }
 {
     put_made(err, report(alloc, &counts(runner)))
 }
 
 /// Makes the moves of a repeated pattern, at most `turns`, as `drive` does, and puts the line of the
 /// report on standard error where it is asked for and the run ended by an exit, a trap, or with its turns.
+/// A fault is answered only where the store or a sink counted one.
 pub fn run<D: Store, O: Sink, E: Sink>(
     alloc: Global,
     runner: &mut Runner,
@@ -71,8 +75,12 @@ pub fn run<D: Store, O: Sink, E: Sink>(
 ) -> Ending
     requires pattern { IsPattern pattern.now }
     requires few { runner.old.counts.moves + turns ≤ 2 ^ 63 }
-    ensures { Drives (RunsTo pattern.now turns with_report result) runner.old runner.new
+    ensures drives { Drives (RunsTo pattern.now turns with_report result) runner.old runner.new
         (record { store = D.state store.old; out = O.state out.old; err = E.state err.old })
+        (record { store = D.state store.new; out = O.state out.new; err = E.state err.new }) }
+    ensures later { IsLater (record { store = D.state store.old; out = O.state out.old; err = E.state err.old })
+        (record { store = D.state store.new; out = O.state out.new; err = E.state err.new }) }
+    ensures cause { runner.old.end ≡ None → HasCause result (record { store = D.state store.old; out = O.state out.old; err = E.state err.old })
         (record { store = D.state store.new; out = O.state out.new; err = E.state err.new }) }
 {
     let ending = drive(runner, pattern, turns, store, out, err);

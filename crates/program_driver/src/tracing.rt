@@ -1,8 +1,10 @@
 //! The trace of a run.
 
-ghost use Rattle.std.specs.Prelude.{◌≡◌, ◌≤◌, ◌<◌, ◌+◌, ◌^◌};
+ghost use Rattle.std.specs.Prelude.{◌≡◌, ◌≤◌, ◌<◌, ◌+◌, ◌^◌, None, IfSome};
 ghost use Rattle.world_io.specs.Outside.{SinkState};
 ghost use Rattle.command_words.specs.Limits.{IsPattern};
+ghost use Rattle.runner.specs.Causes.{IsLater};
+ghost use Rattle.program_driver.specs.Causes.{HasCause};
 ghost use Rattle.program_driver.specs.Progress.{TracesStretch};
 ghost use Rattle.program_driver.specs.Runs.{Drives};
 ghost use Rattle.program_driver.specs.Traces.{TracesTo, TracesMove};
@@ -30,6 +32,11 @@ fn trace_move<D: Store, O: Sink>(
     ensures moves { runner.new.counts.moves ≤ runner.old.counts.moves + 1 }
     ensures files { (D.state store.new).files ≡ (D.state store.old).files }
     ensures traces { TracesMove step result runner.old runner.new (D.state store.old) (O.state out.old) (D.state store.new) (O.state out.new) }
+    ensures later { (err : SinkState) → IsLater (record { store = D.state store.old; out = O.state out.old; err = err })
+        (record { store = D.state store.new; out = O.state out.new; err = err }) }
+    ensures cause { runner.old.end ≡ None → (err : SinkState) → IfSome result (λ ending. HasCause ending (record { store = D.state store.old; out = O.state out.old; err = err })
+        (record { store = D.state store.new; out = O.state out.new; err = err })) }
+    ensures goes_on { result ≡ None → runner.new.end ≡ None }
 {
     let reached = advance(
         runner,
@@ -61,6 +68,11 @@ fn trace_stretch<D: Store, O: Sink>(
     requires few { runner.old.counts.moves + count ≤ 2 ^ 63 }
     ensures moves { runner.new.counts.moves ≤ runner.old.counts.moves + count }
     ensures goes { TracesStretch step count result runner.old runner.new (D.state store.old) (O.state out.old) (D.state store.new) (O.state out.new) }
+    ensures later { (err : SinkState) → IsLater (record { store = D.state store.old; out = O.state out.old; err = err })
+        (record { store = D.state store.new; out = O.state out.new; err = err }) }
+    ensures cause { runner.old.end ≡ None → (err : SinkState) → IfSome result (λ ending. HasCause ending (record { store = D.state store.old; out = O.state out.old; err = err })
+        (record { store = D.state store.new; out = O.state out.new; err = err })) }
+    ensures goes_on { runner.old.end ≡ None → result ≡ None → runner.new.end ≡ None }
 {
     for made in 0..count {
         if runner.rests(step) {
@@ -87,8 +99,12 @@ pub fn trace<D: Store, O: Sink>(
 ) -> Ending
     requires pattern { IsPattern pattern.now }
     requires few { runner.old.counts.moves + turns ≤ 2 ^ 63 }
-    ensures { (err : SinkState) → Drives (TracesTo pattern.now turns result) runner.old runner.new
+    ensures drives { (err : SinkState) → Drives (TracesTo pattern.now turns result) runner.old runner.new
         (record { store = D.state store.old; out = O.state out.old; err = err })
+        (record { store = D.state store.new; out = O.state out.new; err = err }) }
+    ensures later { (err : SinkState) → IsLater (record { store = D.state store.old; out = O.state out.old; err = err })
+        (record { store = D.state store.new; out = O.state out.new; err = err }) }
+    ensures cause { runner.old.end ≡ None → (err : SinkState) → HasCause result (record { store = D.state store.old; out = O.state out.old; err = err })
         (record { store = D.state store.new; out = O.state out.new; err = err }) }
 {
     let mut schedule = Schedule::new(pattern, turns);

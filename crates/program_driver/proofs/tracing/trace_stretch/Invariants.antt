@@ -1,10 +1,12 @@
-use Rattle.std.proofs.Common.{ℕ, ◌+◌, ◌-◌, ◌≤◌, List, ◌++◌}
+use Rattle.std.proofs.Common.{ℕ, ◌+◌, ◌-◌, ◌≤◌, List, ◌++◌, ◌≡◌, None}
 use Rattle.std.specs.Prelude.{replicate}
 use Rattle.spec_base.specs.declared.note.Move.{Move}
 use Rattle.run_model.specs.Patterns.{Pattern}
 use Rattle.world_io.specs.Outside.{SinkState, StoreState}
 use Rattle.runner.specs.declared.runner.Runner.{Runner}
 use Rattle.program_driver.specs.Progress.{TraceProgress}
+use Rattle.runner.specs.Causes.{IsLater}
+use Rattle.program_driver.specs.Traces.{with_err}
 use Rattle.program_driver.proofs.tracing.trace_stretch.Given as goal
 
 abbrev pub invariant-loop-made : goal.invariant-loop-made
@@ -13,4 +15,6 @@ invariant-loop-made g l = record {
   goes : (pattern : Pattern) (turns : ℕ) (left : List Move) (start : Runner) (first : StoreState) (empty : SinkState)
       → TraceProgress pattern turns (replicate l.count l.step ++ left) start l.fn.runner first empty (g.D.Store.state l.fn.store) (g.O.Sink.state l.fn.out)
       → TraceProgress pattern turns (replicate (l.count - l.made) l.step ++ left) start l.runner first empty (g.D.Store.state l.store) (g.O.Sink.state l.out);
+  later : (err : SinkState) → IsLater (with_err err (g.D.Store.state l.fn.store) (g.O.Sink.state l.fn.out)) (with_err err (g.D.Store.state l.store) (g.O.Sink.state l.out));
+  on : l.fn.runner.end ≡ None → l.runner.end ≡ None;
 }
