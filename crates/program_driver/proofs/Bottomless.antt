@@ -1,6 +1,6 @@
 -- No put of a program fails where the sinks take all.
 use Rattle.std.proofs.Common.{◌≡◌, ◌≢◌, ℕ, true, false, List, [], ◌∷◌, length, Option, Some, None, refl, ap, sym, ◌∙◌, subst}
-use Rattle.run_model.specs.Run.{World, Run, RunEnd, SinkFailed}
+use Rattle.run_model.specs.Run.{World, SinkFailed}
 use Rattle.run_model.specs.Moves.{Moves, run}
 use Rattle.run_model.specs.Patterns.{Pattern}
 use Rattle.run_laws.specs.OwnLaws.{Accepted}

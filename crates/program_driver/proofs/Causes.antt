@@ -1,5 +1,5 @@
 -- Why a run has ended by a fault.
-use Rattle.std.proofs.Common.{◌≡◌, ◌≤◌, ℕ, Bool, true, false, List, [], ◌∷◌, Option, Some, None, IfSome, Result, Ok, Err, inl, inr, refl, sym, ap, subst, arith}
+use Rattle.std.proofs.Common.{◌≡◌, ◌≤◌, ℕ, true, false, List, [], ◌∷◌, Option, Some, None, IfSome, Result, Ok, Err, inl, inr, refl, ap, subst, arith}
 use Rattle.world_io.specs.Outside.{StoreState, SinkState, Rose}
 use Rattle.world_io.specs.Logs.{Offer, AreOffered}
 use Rattle.world_io.specs.declared.sink.Put.TheVariants as put
@@ -14,7 +14,7 @@ use Rattle.runner.specs.Causes.{IsLater, SinkRose, EndHasCause, TellsEnd}
 use Rattle.runner.proofs.Causes.{offered-later}
 use Rattle.program_driver.specs.Advances.{ending_in, ending_after, is_starved}
 use Rattle.program_driver.specs.Causes.{HasCause, CountsLines}
-use Rattle.program_driver.specs.Lines.{Line, AreOfLine, PutsLine, ArePut, PutsSome, LinesTo, fault_ending, ending_with}
+use Rattle.program_driver.specs.Lines.{Line, AreOfLine, ArePut, LinesTo, fault_ending, ending_with}
 use Rattle.program_driver.specs.Traces.{over_bottomless, with_err}
 use Rattle.program_driver.specs.declared.lines.LineFault.{LineFault}
 use Rattle.program_driver.specs.declared.lines.LineFault.TheVariants as fault

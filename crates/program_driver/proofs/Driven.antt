@@ -21,7 +21,7 @@ use Rattle.runner.specs.declared.runner.Runner.{Runner}
 use Rattle.run_promises.specs.Schedules.{GoesOn, AreMade, StandsAs, MovesTo}
 use Rattle.program_driver.specs.Advances.{Advances, Goes, Leads, HasEnding, ending_of, is_starved}
 use Rattle.program_driver.specs.Runs.{Drives}
-use Rattle.program_driver.specs.Progress.{HasMade, Progress, ProgressTo}
+use Rattle.program_driver.specs.Progress.{HasMade, Progress}
 use Rattle.program_driver.proofs.Rounding.{front, turns-length}
 
 -- ---- what the store said

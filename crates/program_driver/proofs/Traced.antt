@@ -13,21 +13,20 @@ use Rattle.run_model.specs.Trace.{told_by, trace_from}
 use Rattle.run_laws.specs.OwnLaws.{Accepted}
 use Rattle.command_words.specs.Limits.{IsPattern}
 use Rattle.world_io.specs.Outside.{SinkState, StoreState}
-use Rattle.plain_runner.specs.Runs.{Outside}
 use Rattle.plain_runner.specs.declared.ending.Ending.{Ending}
 use Rattle.plain_runner.specs.declared.ending.Ending.TheVariants.{TurnsOver, NoMemory}
 use Rattle.move_requests.specs.Hears.{AreHeard}
 use Rattle.move_requests.proofs.Heard.{nothing_is_heard}
-use Rattle.runner_parts.specs.Heard.{IsTrueOf, AreTrueOf}
+use Rattle.runner_parts.specs.Heard.{IsTrueOf}
 use Rattle.runner.specs.Shows.{Shows}
 use Rattle.runner.specs.declared.runner.Runner.{Runner}
-use Rattle.run_promises.specs.Schedules.{GoesOn, AreMade, StandsAs, MovesTo}
+use Rattle.run_promises.specs.Schedules.{StandsAs, MovesTo}
 use Rattle.program_driver.specs.Advances.{Advances, HasEnding, ending_of, is_starved}
 use Rattle.program_driver.specs.Lines.{ArePut, LinesTo, note_lines, fault_ending, ending_with}
 use Rattle.program_driver.specs.declared.lines.LineFault.{LineFault}
 use Rattle.program_driver.specs.Runs.{Drives}
 use Rattle.program_driver.specs.Traces.{told_line, trace_lines, last_lines, turns_lines, all_lines, TellsTo, all, in_move, at_turns, over_bottomless, with_err, TracesTo, move_ending, TellsNothing, TellsMove, TracesMove}
-use Rattle.program_driver.specs.Progress.{HasMade, Progress, TraceProgress}
+use Rattle.program_driver.specs.Progress.{TraceProgress}
 use Rattle.program_driver.proofs.Bottomless.{no-sink-fault}
 use Rattle.program_driver.proofs.Driven.{made-AreMade, made-all, OneMore, goes-OneMore, schedule-one, ended-stands, no-memory, both}
 use Rattle.program_driver.proofs.Lining.{append-ArePut}

@@ -3,7 +3,7 @@ use Rattle.std.proofs.Common.{◌≡◌, ◌≤◌, ℕ, Bool, true, false, List
 use Rattle.std.specs.Option.{option_map}
 use Rattle.spec_base.specs.declared.machine.Trap.{Trap}
 use Rattle.world_io.specs.Outside.{StoreState, SinkState, Rose}
-use Rattle.world_io.specs.Logs.{StoreLog, IsOffered}
+use Rattle.world_io.specs.Logs.{IsOffered}
 use Rattle.world_io.specs.declared.sink.Put.{Put}
 use Rattle.world_io.specs.declared.sink.Put.TheVariants as put
 use Rattle.cache_queue.specs.Finishes.{FinishFails, IsOf}

@@ -1,5 +1,5 @@
 -- A move that finishes a fetch.
-use Rattle.std.proofs.Common.{◌≡◌, Bool, true, false, Option, Some, None, refl, ap}
+use Rattle.std.proofs.Common.{◌≡◌, Option, None, ap}
 use Rattle.std.specs.Prelude.{is_none}
 use Rattle.spec_base.specs.declared.note.Move.TheVariants.{D}
 use Rattle.spec_base.specs.declared.spot.BlockSpot.{BlockSpot}

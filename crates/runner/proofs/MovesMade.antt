@@ -1,24 +1,20 @@
 -- A move, put together from what it does and from the laws of runs.
 use Rattle.std.proofs.Common.{◌≡◌, ◌≢◌, ◌≤◌, ◌⊎◌, inl, inr, Bool, true, false, [], ◌∷◌, ◌++◌, Option, Some, None, refl, sym, ap, subst, ◌∙◌}
 use Rattle.std.specs.Option.{option_map}
-use Rattle.spec_base.specs.Files.{Files}
 use Rattle.spec_base.specs.declared.note.Move.{Move}
 use Rattle.spec_base.specs.declared.note.Move.TheVariants.{O}
 use Rattle.code_model.specs.Regions.{slots_in_use}
-use Rattle.code_model.specs.Tables.{AreConsistent}
 use Rattle.run_model.specs.Run.{World, Run, RunEnd, Answer, Usual}
 use Rattle.run_model.specs.Moves.{Moves, step, step_unless, run, is_idle, silent}
-use Rattle.run_laws.specs.OwnLaws.{Accepted, IsShadowMove, own_part}
+use Rattle.run_laws.specs.OwnLaws.{Accepted}
 use Rattle.own_laws.proofs.InvisibleShadow.{shadow_is_invisible}
 use Rattle.shadow_laws.proofs.ShadowRuns.{regions_bounded, tables_consistent}
-use Rattle.mark_laws.specs.Sizes.{TrueSizes}
 use Rattle.mark_laws.proofs.Sizes.{sizes_are_true}
 use Rattle.world_io.specs.Outside.{StoreState, SinkState}
 use Rattle.plain_runner.specs.Runs.{Outside}
 use Rattle.move_requests.specs.Asked.{Asked, Nothing, asks, asks_unless}
 use Rattle.move_requests.specs.Hears.{Hears}
 use Rattle.move_requests.proofs.Snoc.{moves_add_up}
-use Rattle.runner_parts.specs.Heard.{AreTrueOf}
 use Rattle.runner_parts.specs.Parts.{end_of_run}
 use Rattle.runner_parts.specs.Requests.{IsAnswered}
 use Rattle.runner_parts.specs.Turns.{turn_of, turn_if, turn_after, turn_unless}
@@ -27,7 +23,7 @@ use Rattle.runner_parts.specs.declared.turn.Turn.{Turn}
 use Rattle.runner_parts.specs.declared.turn.Turn.TheVariants.{Went, Idle, Ended, StoreFault, SinkFault, NoMemory}
 use Rattle.runner_parts.specs.declared.turn.End.TheVariants as ending
 use Rattle.runner.specs.OwnGoes.{MakesOwnMove}
-use Rattle.runner.specs.Goes.{LeadsTo, MakesMove}
+use Rattle.runner.specs.Goes.{MakesMove}
 use Rattle.runner.specs.ShadowGoes.{MakesStep, beside}
 use Rattle.runner.specs.Shows.{Shows}
 use Rattle.runner.specs.declared.runner.Runner.{Runner}

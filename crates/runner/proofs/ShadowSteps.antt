@@ -1,5 +1,5 @@
 -- A move of the shadow, and what it asks.
-use Rattle.std.proofs.Common.{◌≡◌, Bool, true, false, not, ◌&&◌, ◌||◌, Option, Some, None, refl, sym, ap, subst, ◌∙◌}
+use Rattle.std.proofs.Common.{◌≡◌, Bool, true, false, not, ◌&&◌, ◌||◌, Option, None, refl, sym, ap, subst, ◌∙◌}
 use Rattle.spec_base.specs.declared.note.Move.TheVariants.{S, T}
 use Rattle.spec_base.specs.declared.note.ShadowState.{ShadowState}
 use Rattle.spec_base.specs.declared.note.ShadowState.TheVariants.{Never, Running, Stopped, Parked}

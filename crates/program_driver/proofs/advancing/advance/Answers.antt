@@ -1,4 +1,4 @@
-use Rattle.std.proofs.Common.{inl, refl, sym, subst, ◌≡◌, ◌∙◌, Option, Some, None, IfSome}
+use Rattle.std.proofs.Common.{inl, refl, sym, subst, ◌∙◌, Option, IfSome}
 use Rattle.program_driver.specs.Advances.{Advances}
 use Rattle.program_driver.proofs.Turning.{turn-Advances}
 use Rattle.plain_runner.specs.declared.ending.Ending.{Ending}

@@ -1,4 +1,4 @@
-use Rattle.std.proofs.Common.{◌≡◌, ◌∙◌, ◌+◌, ◌≤◌, ◌^◌, [], ◌++◌, length, ap, sym, arith, refl}
+use Rattle.std.proofs.Common.{◌≡◌, ◌∙◌, ◌+◌, [], ◌++◌, length, ap, sym, arith, refl}
 use Rattle.std.specs.Prelude.{replicate}
 use Rattle.run_model.specs.Patterns.{pattern_moves}
 use Rattle.program_driver.proofs.Rounding.{all-length}

@@ -1,4 +1,4 @@
-use Rattle.std.proofs.Common.{◌≡◌, ◌∙◌, ◌+◌, ◌-◌, ◌∷◌, ◌++◌, sym, arith, refl, Some, None}
+use Rattle.std.proofs.Common.{◌∙◌, ◌+◌, ◌-◌, ◌∷◌, ◌++◌, sym, arith, refl}
 use Rattle.std.specs.Prelude.{replicate}
 use Rattle.program_driver.proofs.Driven.{moves-Progress, next-Progress, ended-Drives}
 use Rattle.program_driver.proofs.Idling.{rest-Progress}

@@ -1,4 +1,4 @@
-use Rattle.std.proofs.Common.{◌≡◌, ◌∙◌, ◌+◌, ◌≤◌, ◌^◌, List, [], ◌++◌, length, ap, sym, subst, arith, refl, ◌∷◌}
+use Rattle.std.proofs.Common.{◌≡◌, ◌∙◌, ◌+◌, [], ◌++◌, length, ap, sym, subst, arith, refl, ◌∷◌}
 use Rattle.std.specs.Prelude.{replicate}
 use Rattle.trace_text.specs.Line.{turns_line_of}
 use Rattle.run_model.specs.Patterns.{pattern_moves}

@@ -3,7 +3,7 @@ use Rattle.program_driver.specs.Lines.{LinesTo, note_lines}
 use Rattle.program_driver.specs.Traces.{move_ending, with_err}
 use Rattle.program_driver.proofs.Traced.{lines-last}
 use Rattle.program_driver.proofs.Causes.{traced-HasCause, traced-later, starved-HasCause, line-HasCause, counts-lines}
-use Rattle.program_driver.specs.Causes.{CountsLines, HasCause}
+use Rattle.program_driver.specs.Causes.{HasCause}
 use Rattle.plain_runner.specs.declared.ending.Ending.{Ending}
 use Rattle.program_driver.proofs.tracing.trace_move.Goals as goal
 

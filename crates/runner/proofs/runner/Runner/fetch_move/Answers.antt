@@ -1,7 +1,5 @@
 use Rattle.std.proofs.Common.{◌≡◌, Bool, None, sym, ap, subst, ◌∙◌}
-use Rattle.std.specs.Prelude.{is_none}
 use Rattle.program_model.specs.Cache.{Cache, in_flight}
-use Rattle.run_model.specs.Run.{World, Run}
 use Rattle.run_model.specs.Moves.{begun}
 use Rattle.cache_queue.specs.State.{CacheState, lists}
 use Rattle.cache_queue.specs.Finishes.{IsOf}

@@ -1,7 +1,6 @@
-use Rattle.std.proofs.Common.{sym, ◌≡◌, ◌∙◌, Option, Some, None}
+use Rattle.std.proofs.Common.{sym, ◌≡◌, ◌∙◌, Some, None}
 use Rattle.runner.proofs.MovesMade.{made-silent}
 use Rattle.runner.proofs.Causes.{same-later, fault-cause}
-use Rattle.runner_parts.specs.declared.turn.End.{End}
 use Rattle.runner.proofs.runner.Runner.go.Goals as goal
 
 pub returns-in-Some-clause-makes : goal.returns-in-Some-clause-makes

@@ -1,4 +1,4 @@
-use Rattle.std.proofs.Common.{[], refl, sym, ◌∙◌, Option, subst}
+use Rattle.std.proofs.Common.{[], refl, sym, ◌∙◌, subst}
 use Rattle.run_model.specs.Run.{Usual}
 use Rattle.run_model.specs.Moves.{begun}
 use Rattle.run_model.specs.OwnMoves.{own_in}

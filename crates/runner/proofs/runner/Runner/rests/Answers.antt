@@ -1,7 +1,6 @@
-use Rattle.std.proofs.Common.{◌≡◌, Bool, not, ◌||◌, sym, ap, ◌∙◌}
+use Rattle.std.proofs.Common.{not, ◌||◌, sym, ap, ◌∙◌}
 use Rattle.std.specs.Prelude.{is_none}
 use Rattle.spec_base.specs.declared.note.Move.{Move}
-use Rattle.spec_base.specs.declared.note.Move.TheVariants.{O, S, T, D}
 use Rattle.spec_base.specs.declared.note.ShadowState.{ShadowState}
 use Rattle.program_model.specs.Cache.{Cache, in_flight}
 use Rattle.run_model.specs.ShadowMoves.{is_running}

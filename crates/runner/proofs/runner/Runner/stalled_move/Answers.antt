@@ -1,10 +1,8 @@
-use Rattle.std.proofs.Common.{◌≡◌, Bool, true, false, not, ◌||◌, [], None, refl, sym, ap, ◌∙◌}
-use Rattle.spec_base.specs.declared.note.Move.TheVariants.{S, T}
-use Rattle.run_model.specs.Run.{World, Run, Usual}
+use Rattle.std.proofs.Common.{◌≡◌, true, false, [], None, refl, sym, ◌∙◌}
+use Rattle.spec_base.specs.declared.note.Move.TheVariants.{T}
+use Rattle.run_model.specs.Run.{Usual}
 use Rattle.run_model.specs.Moves.{begun}
-use Rattle.run_model.specs.ShadowMoves.{is_running}
 use Rattle.runner_parts.proofs.Idle.{step-idle}
-use Rattle.runner_parts.specs.Turns.{turn_if, turn_after}
 use Rattle.runner.proofs.Hearing.{nothing-told, store-silent}
 use Rattle.runner.proofs.Moved.{shows-as, still-none}
 use Rattle.runner.proofs.ShadowSteps.{asks-waiting, asks-free, step-waiting, idle-free, answers-as}
