@@ -58,15 +58,19 @@ move-asks w r D e = fetch-asks (in_flight r.cache) e
 idle-asks : (w : World) (r : Run) (m : Move) → r.end ≡ None → is_idle m r ≡ true → asks w r m ≡ Nothing
 idle-asks w r m going e = subst (λ o. asks_unless o w r m ≡ Nothing) (sym going) (move-asks w r m e)
 
-idle-hears : (w : World) (r : Run) (m : Move) (o : Outside) → r.end ≡ None → is_idle m r ≡ true → Hears w r m Usual o o
-idle-hears w r m o going e =
-    let none = sym (idle-asks w r m going e) in
+-- a move that asks nothing hears nothing
+pub silent-hears : (w : World) (r : Run) (m : Move) (o : Outside) → asks w r m ≡ Nothing → Hears w r m Usual o o
+silent-hears w r m o nothing =
+    let none = sym nothing in
     record {
       may = subst (λ a. MayAnswer a Usual) none refl;
       store = subst (λ a. StoreLog o.store (store_call a Usual) o.store) none (none-StoreLog o.store);
       out = subst (λ a. AreOffered o.out (offers_in true a Usual) o.out) none refl;
       err = subst (λ a. AreOffered o.err (offers_in false a Usual) o.err) none refl;
     }
+
+pub idle-hears : (w : World) (r : Run) (m : Move) (o : Outside) → r.end ≡ None → is_idle m r ≡ true → Hears w r m Usual o o
+idle-hears w r m o going e = silent-hears w r m o (idle-asks w r m going e)
 
 -- an idle move leaves each move as idle as it was
 idle-again : (m : Move) (r : Run) → is_idle m (begun r) ≡ is_idle m r
@@ -111,16 +115,16 @@ rest-many (suc k) w sooner ms m before here was idle =
 
 -- ---- what a runner makes of them
 
-run-append : (w : World) (r : Run) (ms more : Moves) → run_from w r (ms ++ more) ≡ run_from w (run_from w r ms) more
+pub run-append : (w : World) (r : Run) (ms more : Moves) → run_from w r (ms ++ more) ≡ run_from w (run_from w r ms) more
 unfolding run_from
 run-append w r [] more = refl
 run-append w r (m ∷ ms) more = run-append w (step w r m) ms more
 
-are-idle : (k : ℕ) (m : Move) (r : Run) → is_idle m r ≡ true → AreIdle r (idles k m)
+pub are-idle : (k : ℕ) (m : Move) (r : Run) → is_idle m r ≡ true → AreIdle r (idles k m)
 are-idle zero m r e = tt
 are-idle (suc k) m r e = (e, are-idle k m r e)
 
-idles-length : (k : ℕ) (m : Move) → length (idles k m) ≡ k
+pub idles-length : (k : ℕ) (m : Move) → length (idles k m) ≡ k
 idles-length zero m = refl
 idles-length (suc k) m = ap suc (idles-length k m)
 

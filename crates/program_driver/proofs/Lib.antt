@@ -7,4 +7,6 @@ mod Turning
 mod Bottomless
 mod Reported
 mod Idling
+mod Passing
+mod AtOnce
 mod Stretching

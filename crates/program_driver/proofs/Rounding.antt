@@ -58,7 +58,7 @@ all-length pattern n moves p e = ap length e ∙ turns-length pattern n p
 -- ---- the next stretch
 
 -- a stretch that is made whole
-rounds-whole : (round moves : List Move) (m : Move) (c n : ℕ) → c ≤ n → rounds round (replicate c m ++ moves) n ≡ replicate c m ++ rounds round moves (n - c)
+pub rounds-whole : (round moves : List Move) (m : Move) (c n : ℕ) → c ≤ n → rounds round (replicate c m ++ moves) n ≡ replicate c m ++ rounds round moves (n - c)
 rounds-whole round moves m zero n few = let e : n ≡ n - 0 = omega arith in ap (rounds round moves) e
 rounds-whole round moves m (suc c) zero few = absurd (let h : suc c ≤ 0 = few in omega (arith, h))
 rounds-whole round moves m (suc c) (suc n) few =
@@ -66,13 +66,13 @@ rounds-whole round moves m (suc c) (suc n) few =
     ap (λ l. m ∷ l) (rounds-whole round moves m c n (omega (arith, few)) ∙ ap (λ k. replicate c m ++ rounds round moves k) e)
 
 -- one that is cut short
-rounds-cut : (round moves : List Move) (m : Move) (c n : ℕ) → n ≤ c → rounds round (replicate c m ++ moves) n ≡ replicate n m ++ []
+pub rounds-cut : (round moves : List Move) (m : Move) (c n : ℕ) → n ≤ c → rounds round (replicate c m ++ moves) n ≡ replicate n m ++ []
 rounds-cut round moves m c zero few = refl
 rounds-cut round moves m zero (suc n) few = absurd (let h : suc n ≤ 0 = few in omega (arith, h))
 rounds-cut round moves m (suc c) (suc n) few = ap (λ l. m ∷ l) (rounds-cut round moves m c n (omega (arith, few)))
 
 -- a new round
-rounds-again : (m : Move) (round : List Move) (n : ℕ) → rounds (m ∷ round) [] n ≡ rounds (m ∷ round) (m ∷ round) n
+pub rounds-again : (m : Move) (round : List Move) (n : ℕ) → rounds (m ∷ round) [] n ≡ rounds (m ∷ round) (m ∷ round) n
 rounds-again m round zero = refl
 rounds-again m round (suc n) = refl
 
@@ -81,18 +81,10 @@ round-again pattern m zero n rest is some = absurd (let h : 1 ≤ 0 = some in om
 round-again pattern m (suc c) n rest is some = rw is (rounds-again m (replicate c m ++ one_round rest) n)
 
 -- the next item comes first
-next-first : (pattern items rest : Pattern) (m : Move) (c n : ℕ) → (m, c) ∷ rest ≡ items_or pattern items → 1 ≤ c
+pub next-first : (pattern items rest : Pattern) (m : Move) (c n : ℕ) → (m, c) ∷ rest ≡ items_or pattern items → 1 ≤ c
     → moves_from pattern items n ≡ rounds (one_round pattern) (replicate c m ++ one_round rest) n
 next-first pattern [] rest m c n is some = round-again pattern m c n rest (sym is) some
 next-first pattern (item ∷ items) rest m c n is some = ap (λ l. rounds (one_round pattern) (one_round l) n) (sym is)
-
-pub next-whole : (pattern items rest : Pattern) (m : Move) (c n : ℕ) → (m, c) ∷ rest ≡ items_or pattern items → 1 ≤ c → c ≤ n
-    → moves_from pattern items n ≡ replicate c m ++ moves_from pattern rest (n - c)
-next-whole pattern items rest m c n is some few = next-first pattern items rest m c n is some ∙ rounds-whole (one_round pattern) (one_round rest) m c n few
-
-pub next-cut : (pattern items rest : Pattern) (m : Move) (c n : ℕ) → (m, c) ∷ rest ≡ items_or pattern items → 1 ≤ c → n ≤ c
-    → moves_from pattern items n ≡ replicate n m ++ moves_from pattern items 0
-next-cut pattern items rest m c n is some few = next-first pattern items rest m c n is some ∙ rounds-cut (one_round pattern) (one_round rest) m c n few
 
 -- its move is made, and so are those behind it
 pub next-HasMoves : (pattern items rest : Pattern) (m : Move) (c : ℕ) → (m, c) ∷ rest ≡ items_or pattern items → HasMoves pattern → HasMoves items → (1 ≤ c) × HasMoves rest

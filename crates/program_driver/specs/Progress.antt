@@ -47,6 +47,10 @@ MakesStretch m count ending now new here after =
     (pattern : Pattern) (turns : ℕ) (left : List Move) (old : Runner) (before : Outside) → Progress pattern turns (replicate count m ++ left) old now before here
     → ProgressTo pattern turns left old ending new before after
 
+-- of the moves that come next some were made, whatever moves were made before them, and nothing was asked: these are left
+abbrev pub MakesFront : List Move → List Move → Runner → Runner → Outside → Type 0
+MakesFront coming left now new here = (pattern : Pattern) (turns : ℕ) (old : Runner) (before : Outside) → Progress pattern turns coming old now before here → Progress pattern turns left old new before here
+
 -- ---- a trace
 
 -- the same of a trace, whose lines were put

@@ -1,11 +1,12 @@
 //! The moves of a pattern.
 
-ghost use Rattle.std.specs.Prelude.{◌≡◌, ◌≤◌, ◌+◌, ◌^◌, None, IfSome};
+ghost use Rattle.std.specs.Prelude.{◌≡◌, ◌≤◌, ◌+◌, ◌^◌, length, None, IfSome};
 ghost use Rattle.command_words.specs.Limits.{IsPattern};
 ghost use Rattle.runner.specs.Causes.{IsLater};
 ghost use Rattle.run_promises.specs.Schedules.{MovesTo};
+ghost use Rattle.plain_runner.specs.Runs.{Outside};
 ghost use Rattle.program_driver.specs.Causes.{HasCause};
-ghost use Rattle.program_driver.specs.Progress.{MakesStretch};
+ghost use Rattle.program_driver.specs.Progress.{MakesStretch, MakesFront};
 ghost use Rattle.program_driver.specs.Runs.{Drives};
 
 use crate::advancing::advance;
@@ -48,9 +49,26 @@ fn drive_stretch<D: Store, O: Sink, E: Sink>(
     None
 }
 
+/// Makes many of the next moves at once, where the shadow isn't running and nothing is in flight: words of
+/// the program, and between them moves that do nothing but count.
+fn drive_at_once(runner: &mut Runner, schedule: &mut Schedule<'_>)
+    requires few { runner.old.counts.moves + length schedule.old ≤ 2 ^ 63 }
+    ensures few { runner.new.counts.moves + length schedule.new ≤ 2 ^ 63 }
+    ensures shorter { length schedule.new ≤ length schedule.old }
+    ensures end { runner.new.end ≡ runner.old.end }
+    ensures goes { (here : Outside) → MakesFront schedule.old schedule.new runner.old runner.new here }
+{
+    if !runner.rests(Move::S) || !runner.rests(Move::D) {
+        return;
+    }
+    let words = runner.go_own(schedule.own_left());
+    let moves = schedule.pass_own(words);
+    runner.rest(moves - words);
+}
+
 /// Makes the moves of a repeated pattern, at most `turns`, over a store and two sinks, up to the first
-/// that ends the run. Before each move pages are reserved, where fewer than 17 are spare; `NoMemory` comes
-/// where that fails.
+/// that ends the run. Before each move that is made by itself pages are reserved, where fewer than 17 are
+/// spare; `NoMemory` comes where that fails.
 pub fn drive<D: Store, O: Sink, E: Sink>(
     runner: &mut Runner,
     pattern: &List<(Move, u32)>,
@@ -74,6 +92,7 @@ pub fn drive<D: Store, O: Sink, E: Sink>(
         if let Some(ending) = drive_stretch(runner, step, count, store, out, err) {
             return ending;
         }
+        drive_at_once(runner, &mut schedule);
     }
     Ending::TurnsOver(runner.own_done())
 }

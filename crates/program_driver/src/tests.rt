@@ -48,6 +48,40 @@ fn a_pattern_is_repeated(rt: HostRuntime) -> Result<(), Fail> {
     Ok(())
 }
 
+// How many of 21 moves of a pattern are passed with so many of the own hart, and what comes next.
+fn passed(pattern: &List<(Move, u32)>, own: u64) -> (u64, Option<(Move, u64)>)
+    requires { IsPattern pattern.now }
+{
+    let mut schedule = Schedule::new(pattern, 21);
+    if schedule.own_left() < own {
+        return (0, None);
+    }
+    let moves = schedule.pass_own(own);
+    (moves, schedule.next_stretch())
+}
+
+#[test]
+fn moves_of_the_own_hart_are_passed(rt: HostRuntime) -> Result<(), Fail> {
+    let alloc = rt.alloc();
+    let pattern = List {
+        items: vec![in alloc; (Move::O, 2), (Move::S, 3), (Move::O, 1), (Move::D, 1)]?,
+    };
+    let rows = [
+        (0, 0, (Move::O, 2)),
+        (1, 1, (Move::O, 1)),
+        (2, 2, (Move::S, 3)),
+        (3, 7, (Move::O, 2)),
+        (4, 8, (Move::O, 1)),
+        (5, 9, (Move::S, 3)),
+        (6, 14, (Move::O, 2)),
+        (7, 15, (Move::O, 1)),
+    ];
+    for (own, moves, next) in &rows {
+        assert_eq!(rt; passed(&pattern, *own), (*moves, Some(*next)));
+    }
+    Ok(())
+}
+
 // What a sink has of a line of three bytes, and whether that is put whole. The sink takes one byte of
 // the first put, and the puts in `fails` fail.
 fn line_over(alloc: Global, fails: &[u64]) -> Result<(Vec<u8>, Result<(), LineFault>), Fail> {

@@ -11,3 +11,4 @@ pub mod ShadowPlans
 pub mod ShadowSteps
 pub mod FetchSteps
 pub mod MovesMade
+pub mod Stretched

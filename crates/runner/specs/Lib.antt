@@ -1,4 +1,5 @@
 pub mod Shows
+pub mod Stretches
 pub mod Causes
 pub mod OwnGoes
 pub mod ShadowGoes

@@ -3,6 +3,7 @@
 #![tactic(auto)]
 
 mod answering;
+mod bulk;
 mod calling;
 mod demanding;
 mod fetching;

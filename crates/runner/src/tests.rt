@@ -74,3 +74,24 @@ fn one_instruction_and_the_end(rt: HostRuntime) -> Result<(), Fail> {
     assert!(rt; runner.moves() == 5);
     Ok(())
 }
+
+// At most five words of the program at once, of a runner that has made few moves.
+fn words(runner: &mut Runner) -> Option<u64> {
+    if runner.moves() < 100 {
+        Some(runner.go_own(5))
+    } else {
+        None
+    }
+}
+
+// Words are made at once up to one that traps, which isn't made.
+#[test]
+fn words_of_the_program_are_made_at_once(rt: HostRuntime) -> Result<(), Fail> {
+    let alloc = rt.alloc();
+    let mut runner = runner_of(alloc)?;
+    assert!(rt; words(&mut runner) == Some(1));
+    assert!(rt; words(&mut runner) == Some(0));
+    assert!(rt; runner.own_done() == 1);
+    assert!(rt; runner.moves() == 1);
+    Ok(())
+}

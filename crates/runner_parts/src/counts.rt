@@ -2,7 +2,7 @@
 
 ghost use Rattle.std.specs.Prelude.{◌≡◌, ◌+◌, ◌<◌, ◌≤◌, ◌==◌, ◌^◌};
 ghost use Rattle.run_model.specs.OwnMoves.{stays_behind};
-ghost use Rattle.runner_parts.specs.Counts.{AreBelow, no_counts, one_move, more_moves, one_arrival, one_done, one_restart, one_hint, one_stall, one_read, most_regions};
+ghost use Rattle.runner_parts.specs.Counts.{AreBelow, no_counts, one_move, more_moves, one_arrival, one_done, many_done, one_restart, one_hint, one_stall, one_read, most_regions};
 
 use std::marker::Model;
 
@@ -120,6 +120,16 @@ impl Counts {
     {
         self.own_done += 1;
         self.own_since += 1;
+    }
+
+    /// The own hart completes so many instructions, each in a move.
+    pub fn complete_many(&mut self, words: u64)
+        requires { self.old.moves + words ≤ 2 ^ 63 }
+        ensures { self.new ≡ many_done words self.old }
+    {
+        self.moves += words;
+        self.own_done += words;
+        self.own_since += words;
     }
 
     /// Whether the own hart has completed no more instructions since the restart than the shadow.

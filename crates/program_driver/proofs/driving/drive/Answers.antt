@@ -20,15 +20,21 @@ loop-step-init g c =
       on = λ on. on;
     }
 
+pub drive_at_once-requires : goal.drive_at_once-requires
+drive_at_once-requires g c =
+    let count : length c.loop-step.schedule ≡ c.in-Some.count + length c.next_stretch.new.self = ap length c.in-Some.ensures.moves ∙ stretch-length c.in-Some.count c.in-Some.step c.next_stretch.new.self in
+    omega (arith, c.loop-step.invariant.few, c.drive_stretch.ensures.moves, count)
+
 pub loop-step-preserved : goal.loop-step-preserved
 loop-step-preserved g c =
-    let count : length c.loop-step.schedule ≡ c.in-Some.count + length c.next_stretch.new.self = ap length c.in-Some.ensures.moves ∙ stretch-length c.in-Some.count c.in-Some.step c.next_stretch.new.self in
     record {
-      few = omega (arith, c.loop-step.invariant.few, c.drive_stretch.ensures.moves, count);
-      log = c.in_default-drive_stretch.ensures.goes c.args.pattern.now c.args.turns c.next_stretch.new.self c.args.runner.now (record { store = g.D.Store.state c.args.store.now; out = g.O.Sink.state c.args.out.now; err = g.E.Sink.state c.args.err.now })
-          (moves-Progress c.args.pattern.now c.args.turns c.args.runner.now c.loop-step.runner (record { store = g.D.Store.state c.args.store.now; out = g.O.Sink.state c.args.out.now; err = g.E.Sink.state c.args.err.now }) (record { store = g.D.Store.state c.loop-step.store; out = g.O.Sink.state c.loop-step.out; err = g.E.Sink.state c.loop-step.err }) c.loop-step.schedule (replicate c.in-Some.count c.in-Some.step ++ c.next_stretch.new.self) c.in-Some.ensures.moves c.loop-step.invariant.log);
+      few = c.drive_at_once.ensures.few;
+      log =
+          c.drive_at_once.ensures.goes (record { store = g.D.Store.state c.drive_stretch.new.store; out = g.O.Sink.state c.drive_stretch.new.out; err = g.E.Sink.state c.drive_stretch.new.err }) c.args.pattern.now c.args.turns c.args.runner.now (record { store = g.D.Store.state c.args.store.now; out = g.O.Sink.state c.args.out.now; err = g.E.Sink.state c.args.err.now })
+          (c.in_default-drive_stretch.ensures.goes c.args.pattern.now c.args.turns c.next_stretch.new.self c.args.runner.now (record { store = g.D.Store.state c.args.store.now; out = g.O.Sink.state c.args.out.now; err = g.E.Sink.state c.args.err.now })
+          (moves-Progress c.args.pattern.now c.args.turns c.args.runner.now c.loop-step.runner (record { store = g.D.Store.state c.args.store.now; out = g.O.Sink.state c.args.out.now; err = g.E.Sink.state c.args.err.now }) (record { store = g.D.Store.state c.loop-step.store; out = g.O.Sink.state c.loop-step.out; err = g.E.Sink.state c.loop-step.err }) c.loop-step.schedule (replicate c.in-Some.count c.in-Some.step ++ c.next_stretch.new.self) c.in-Some.ensures.moves c.loop-step.invariant.log));
       later = later-IsLater _ _ _ c.loop-step.invariant.later c.drive_stretch.ensures.later;
-      on = λ on. c.in_default-drive_stretch.ensures.goes_on (c.loop-step.invariant.on on) refl;
+      on = λ on. (c.drive_at_once.ensures.end ∙ c.in_default-drive_stretch.ensures.goes_on (c.loop-step.invariant.on on) refl);
     }
 
 pub returns-in-Some-drive_stretch-clause-drives : goal.returns-in-Some-drive_stretch-clause-drives

@@ -1,0 +1,45 @@
+-- Words of the program that the own hart makes one after the other (this project's own).
+use Rattle.std.specs.Prelude.{◌≡◌, ℕ, zero, suc, ◌+◌, false, ◌&&◌, [], replicate, None}
+use Rattle.spec_base.specs.declared.machine.View.TheVariants.{Program}
+use Rattle.spec_base.specs.declared.note.Move.TheVariants.{O}
+use Rattle.run_model.specs.Run.{World, Run, Usual}
+use Rattle.run_model.specs.OwnMoves.{stays_behind}
+use Rattle.run_model.specs.Moves.{Moves, step, run_from}
+use Rattle.runner.specs.Shows.{Shows}
+use Rattle.runner.specs.declared.runner.Runner.{Runner}
+
+-- ---- which words
+
+-- a run that goes on, whose own hart is in the program and waits for nothing
+pub record IsInProgram (r : Run) : Type 0 where
+  pub on : r.end ≡ None
+  pub goes : r.stalled ≡ false
+  pub view : r.view ≡ Program
+
+-- so many moves of the own hart
+abbrev pub own_moves : ℕ → Moves
+own_moves n = replicate n (O, Usual)
+
+-- each of so many moves of the own hart is a word of the program, and none ends the run
+abbrev pub AreOwnWords : World → ℕ → Run → Type 0
+AreOwnWords w zero r = Unit {0}
+AreOwnWords w (suc n) r = IsInProgram r × ((step w r (O, Usual)).end ≡ None) × AreOwnWords w n (step w r (O, Usual))
+
+-- a runner made them
+pub record MakesOwnWords (n : ℕ) (u : Runner) (w : World) (r : Run) : Type 0 where
+  pub words : AreOwnWords w n r
+  pub shows : Shows u w (run_from w r (own_moves n))
+
+-- ---- what is counted of them
+
+-- the run in which so many instructions more are completed, each in a move
+abbrev pub words_done : ℕ → Run → Run
+words_done zero r = r
+words_done (suc n) r =
+    record r {
+      own_done = r.own_done + suc n;
+      since = record r.since { own = r.since.own + suc n; ahead = r.since.ahead && stays_behind r.restarts (r.since.own + suc n) r.since.shadow };
+      moves = r.moves + suc n;
+      notes = [];
+      text = [];
+    }
