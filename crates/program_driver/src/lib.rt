@@ -13,6 +13,6 @@ mod tracing;
 
 pub use driving::drive;
 pub use lines::LineFault;
-pub use reporting::run;
+pub use reporting::{counts, run};
 pub use schedule::Schedule;
 pub use tracing::trace;

@@ -20,7 +20,7 @@ use trace_text::{Counts, report};
 use world_io::{Sink, Store};
 
 /// The counts of a report.
-fn counts(runner: &Runner) -> Counts
+pub fn counts(runner: &Runner) -> Counts
     ensures { (w : World) (r : Run) → Shows runner.now w r → result ≡ counts_of r }
 {
     Counts {
