@@ -79,7 +79,7 @@ store_fault_in Plain r old new (inr a) = failed_run r old new a
 store_fault_in Rewrite r old new stopped = failed_read old.store new.store (image_name r) stopped.0
 store_fault_in Run r old new h = image_store_fault (RunGoes r) r old new h
 store_fault_in Trace r old new h = trace_store_fault r.options.uses r old new h
-store_fault_in Demo r old new h = absurd (let e : StoreFault ≡ NotBuilt = h.0 in cc)
+store_fault_in Demo r old new h = absurd h
 store_fault_in Replay r old new stopped = failed_read old.store new.store (image_name r) stopped.0
 store_fault_in Plan r old new stopped = failed_read old.store new.store (image_name r) stopped.0
 
@@ -130,7 +130,7 @@ sink_fault_in Plain r old new a = put_failed r old new a
 sink_fault_in Rewrite r old new h = inl (rose-PutsText old.out new.out _ h.2.2.puts)
 sink_fault_in Run r old new a = ran-SinkRose (RunGoes r) r old new a
 sink_fault_in Trace r old new h = trace_sink_fault r.options.uses r old new h
-sink_fault_in Demo r old new h = absurd (let e : SinkFault ≡ NotBuilt = h.0 in cc)
+sink_fault_in Demo r old new h = inl (rose-PutsText old.out new.out h.0 h.2.0)
 sink_fault_in Replay r old new h = inl (rose-PutsText old.out new.out (replay_line h.1) h.4.0)
 sink_fault_in Plan r old new h = inl (rose-PutsText old.out new.out (plan_line h.2 r.options.blocks) h.6.0)
 
@@ -165,7 +165,7 @@ absent_in Plain r old new h = h.0.told
 absent_in Rewrite r old new h = h.0.told
 absent_in Run r old new h = h.0.told
 absent_in Trace r old new h = trace_absent r.options.uses r old new h
-absent_in Demo r old new h = absurd (let e : Absent ≡ NotBuilt = h.0 in cc)
+absent_in Demo r old new h = absurd h
 absent_in Replay r old new h = h.0.told
 absent_in Plan r old new h = h.0.told
 
@@ -190,7 +190,7 @@ not_usage Plain r old new h = h
 not_usage Rewrite r old new h = h
 not_usage Run r old new h = h
 not_usage Trace r old new h = trace_usage r.options.uses r old new h
-not_usage Demo r old new h = let e : Usage ≡ NotBuilt = h.0 in cc
+not_usage Demo r old new h = absurd h
 not_usage Replay r old new h = h
 not_usage Plan r old new h = h
 

@@ -47,8 +47,9 @@ use Rattle.fetch_plan.specs.declared.traces.PlanTotals.{PlanTotals}
 use Rattle.spechint_commands.specs.Texts.{text_of}
 use Rattle.spechint_commands.specs.Lines.{replay_line, plan_line}
 use Rattle.spechint_commands.specs.Run.{asked_file, Going, Ran, ImageTo, RunGoes, TraceGoes, RunTo, TraceBy}
-use Rattle.spechint_commands.specs.Common.{Silent, Stopped, EndingStatus, ReadsFile, image_name}
-use Rattle.spechint_commands.specs.Top.{Runs, Accepted, PlainTo, Rewrites, RewriteTo, PutsLine, settings_of, ReplayTo, PlanTo, CommandTo, IsOutcome}
+use Rattle.spechint_commands.specs.Common.{Silent, Stopped, EndingStatus, ReadsFile, image_name, PutsLine}
+use Rattle.spechint_commands.specs.Demo.{DemoTo}
+use Rattle.spechint_commands.specs.Top.{Runs, Accepted, PlainTo, Rewrites, RewriteTo, settings_of, ReplayTo, PlanTo, CommandTo, IsOutcome}
 use Rattle.spechint_commands.specs.Defined.{EndsAs, IsPlainRun, IsEnd, IsDefinedRun, IsDefinedTrace, ByOpened, ByUses, ByBytes, ByProfile, BySize, ByFile, ByReplayed, ByNeeds, ByPlanned, ByTrace, ByTraceSize, ByTraceFile, ByCommand, ByRequest, IsDefined, IsSteady}
 use Rattle.spechint_commands.specs.declared.status.Status.{Status}
 use Rattle.spechint_commands.specs.declared.status.Status.TheVariants.{Done, Exited, Trapped, TurnsOver, Usage, NotBuilt, Absent, Refused, BadLine, TooMany, StoreFault, SinkFault, NoMemory}
@@ -426,6 +427,23 @@ by_plan r files (TurnsOver count) old new e h s o = absurd h
 by_plan r files Usage old new e h s o = absurd h
 by_plan r files NotBuilt old new e h s o = absurd h
 
+-- `demo`, status by status
+by_demo : (r : Request) (files : Files) (status : Status) (old new : Outside) → DemoTo r status old new → Steady old.out.faults new.out.faults
+    → (status ≡ NoMemory) ⊎ ByCommand Demo files r status old new
+by_demo r files Done old new (line, is, puts, asked) o = inr (refl, line, is, puts, asked)
+by_demo r files SinkFault old new h o = absurd (clash old.out.faults new.out.faults (rose-PutsText old.out new.out h.0 h.2.0) o)
+by_demo r files NoMemory old new h o = inl refl
+by_demo r files Absent old new h o = absurd h
+by_demo r files (Refused why) old new h o = absurd h
+by_demo r files StoreFault old new h o = absurd h
+by_demo r files TooMany old new h o = absurd h
+by_demo r files (BadLine number) old new h o = absurd h
+by_demo r files (Exited c) old new h o = absurd h
+by_demo r files (Trapped t pc) old new h o = absurd h
+by_demo r files (TurnsOver count) old new h o = absurd h
+by_demo r files Usage old new h o = absurd h
+by_demo r files NotBuilt old new h o = absurd h
+
 -- ---- commands
 
 by_command : RunsAreAsPlain → (c : Command) (r : Request) (files : Files) (status : Status) (old new : Outside) → old.store.files ≡ Some files → CommandTo c r status old new
@@ -435,7 +453,7 @@ by_command law Plain r files status old new e h s o w = by_status r files status
 by_command law Rewrite r files status old new e h s o w = by_rewrite r files status old new e h s o
 by_command law Run r files status old new e h s o w = by_run law r files status old new e h s o w
 by_command law Trace r files status old new e h s o w = by_uses law r.options.uses r files status old new e h s o w
-by_command law Demo r files status old new e h s o w = inr h
+by_command law Demo r files status old new e h s o w = by_demo r files status old new h o
 by_command law Replay r files status old new e h s o w = by_replay r files status old new e h s o
 by_command law Plan r files status old new e h s o w = by_plan r files status old new e h s o
 
@@ -543,12 +561,28 @@ plan_err r (TurnsOver count) old new h = absurd h
 plan_err r Usage old new h = absurd h
 plan_err r NotBuilt old new h = absurd h
 
+-- nor does `demo`
+demo_err : (r : Request) (status : Status) (old new : Outside) → DemoTo r status old new → new.err ≡ old.err
+demo_err r Done old new h = h.2.1
+demo_err r SinkFault old new h = h.2.1
+demo_err r NoMemory old new h = h.1.1
+demo_err r Absent old new h = absurd h
+demo_err r (Refused why) old new h = absurd h
+demo_err r StoreFault old new h = absurd h
+demo_err r TooMany old new h = absurd h
+demo_err r (BadLine number) old new h = absurd h
+demo_err r (Exited c) old new h = absurd h
+demo_err r (Trapped t pc) old new h = absurd h
+demo_err r (TurnsOver count) old new h = absurd h
+demo_err r Usage old new h = absurd h
+demo_err r NotBuilt old new h = absurd h
+
 later_in : (c : Command) (r : Request) (status : Status) (old new : Outside) → CommandTo c r status old new → old.err.faults ≤ new.err.faults
 later_in Plain r status old new h = later_err r status old new h
 later_in Rewrite r status old new h = (let same = ap (λ s. s.faults) (rewrite_err r status old new h) in omega arith)
 later_in Run r status old new h = image_err (RunGoes r) r status old new h
 later_in Trace r status old new h = trace_err r.options.uses r status old new h
-later_in Demo r status old new h = silent_err old new h.1.1
+later_in Demo r status old new h = (let same = ap (λ s. s.faults) (demo_err r status old new h) in omega arith)
 later_in Replay r status old new h = (let same = ap (λ s. s.faults) (replay_err r status old new h) in omega arith)
 later_in Plan r status old new h = (let same = ap (λ s. s.faults) (plan_err r status old new h) in omega arith)
 

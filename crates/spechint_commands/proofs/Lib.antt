@@ -2,6 +2,7 @@ mod Digits
 mod Outcomes
 mod Opens
 mod Running
+mod Demonstrating
 mod AsPlain
 mod Causes
 mod Promised

@@ -23,7 +23,7 @@ use Rattle.spechint_commands.specs.declared.status.Status.{Status}
 use Rattle.spechint_commands.specs.declared.status.Status.TheVariants.{Done, Exited, Trapped, TurnsOver, Usage, NotBuilt, Absent, Refused, BadLine, TooMany, StoreFault, SinkFault, NoMemory}
 
 -- a run of no moves stands where it was opened
-opened-now : (v : Runner) (w : World) → Shows v w (run w []) → Shows v w (opened_run w)
+pub opened-now : (v : Runner) (w : World) → Shows v w (run w []) → Shows v w (opened_run w)
 unfolding run_from
 opened-now v w h = h
 

@@ -1,6 +1,7 @@
--- What commands have in common: the reading of the image or the trace, and the status of a run's ending (this project's own).
-use Rattle.std.specs.Prelude.{◌≡◌, ℕ, List, [], slice_index_or, Result, Ok, Err}
+-- What commands have in common: the reading of the image or the trace, a line that is put, and the status of a run's ending (this project's own).
+use Rattle.std.specs.Prelude.{◌≡◌, ℕ, Bool, List, [], slice_index_or, Result, Ok, Err}
 use Rattle.world_io.specs.Outside.{StoreState}
+use Rattle.world_io.specs.Texts.{PutsText}
 use Rattle.whole_file.specs.Reading.{ReadsWhole}
 use Rattle.whole_file.specs.declared.reading.ReadFault.{ReadFault}
 use Rattle.whole_file.specs.declared.reading.ReadFault.TheVariants as read
@@ -42,6 +43,12 @@ Stopped r fault old new = ReadsWhole old.store (image_name r) (Err fault) new.st
 -- the file was read whole
 abbrev pub ReadsFile : Request → List ℕ → Outside → Outside → Type 0
 ReadsFile r bytes old new = ReadsWhole old.store (image_name r) (Ok bytes) new.store
+
+-- ---- a line
+
+-- a line was put on standard output, whole or up to a put that failed
+abbrev pub PutsLine : List ℕ → Bool → Outside → Outside → Type 0
+PutsLine line whole old new = PutsText old.out line whole new.out × (new.err ≡ old.err)
 
 -- ---- how a run ends
 

@@ -35,9 +35,10 @@ use Rattle.fetch_plan.specs.Traces.{HasLeast}
 use Rattle.fetch_plan.specs.declared.traces.PlanTotals.{PlanTotals}
 use Rattle.spechint_commands.specs.Texts.{text_of}
 use Rattle.spechint_commands.specs.Lines.{replay_line, plan_line}
-use Rattle.spechint_commands.specs.Common.{Silent, Untouched, EndingStatus, image_name}
+use Rattle.spechint_commands.specs.Common.{Silent, Untouched, EndingStatus, PutsLine, image_name}
 use Rattle.spechint_commands.specs.Run.{asked_file}
-use Rattle.spechint_commands.specs.Top.{PutsLine, settings_of, asked_program}
+use Rattle.spechint_commands.specs.Demo.{IsDemoLine}
+use Rattle.spechint_commands.specs.Top.{settings_of, asked_program}
 use Rattle.spechint_commands.specs.declared.status.Status.{Status}
 use Rattle.spechint_commands.specs.declared.status.Status.TheVariants.{Done, Exited, Trapped, TurnsOver, Usage, NotBuilt, Absent, Refused, BadLine, TooMany, StoreFault, SinkFault, NoMemory}
 
@@ -185,7 +186,7 @@ ByCommand Plain files r status old new = ByFile Plain (files (image_name r)) fil
 ByCommand Rewrite files r status old new = ByFile Rewrite (files (image_name r)) files r status old new
 ByCommand Run files r status old new = ByFile Run (files (image_name r)) files r status old new
 ByCommand Trace files r status old new = ByUses r.options.uses files r status old new
-ByCommand Demo files r status old new = (status ≡ NotBuilt) × Untouched old new
+ByCommand Demo files r status old new = (status ≡ Done) × (line : List ℕ) × IsDemoLine r line × PutsLine line true old new × (new.store ≡ old.store)
 ByCommand Replay files r status old new = ByTraceFile Replay (files (image_name r)) r status old new
 ByCommand Plan files r status old new = ByTraceFile Plan (files (image_name r)) r status old new
 

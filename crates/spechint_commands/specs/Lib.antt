@@ -3,6 +3,7 @@ pub mod Lines
 pub mod Common
 pub mod Run
 pub mod Opens
+pub mod Demo
 pub mod Top
 pub mod Promised
 pub mod Defined

@@ -31,8 +31,9 @@ use Rattle.fetch_plan.specs.Traces.{trace_needs, HasLeast}
 use Rattle.fetch_plan.specs.declared.traces.PlanTotals.{PlanTotals}
 use Rattle.spechint_commands.specs.Texts.{text_of}
 use Rattle.spechint_commands.specs.Lines.{replay_line, plan_line}
-use Rattle.spechint_commands.specs.Common.{Silent, Untouched, Stopped, ReadsFile, EndingStatus, image_name}
+use Rattle.spechint_commands.specs.Common.{Silent, Untouched, Stopped, ReadsFile, EndingStatus, PutsLine, image_name}
 use Rattle.spechint_commands.specs.Run.{RunTo, TraceTo}
+use Rattle.spechint_commands.specs.Demo.{DemoTo}
 use Rattle.spechint_commands.specs.declared.status.Status.{Status}
 use Rattle.spechint_commands.specs.declared.status.Status.TheVariants.{Done, Exited, Trapped, TurnsOver, Usage, NotBuilt, Absent, Refused, BadLine, TooMany, StoreFault, SinkFault, NoMemory}
 
@@ -131,10 +132,6 @@ HasBadLine r n old new = (bytes : List ℕ) × ReadsFile r bytes old new × (tra
 abbrev pub IsTraceStarved : Request → Outside → Outside → Type 0
 IsTraceStarved r old new = (bytes : List ℕ) × ReadsFile r bytes old new × Silent old new
 
--- a line was put on standard output, whole or up to a put that failed
-abbrev pub PutsLine : List ℕ → Bool → Outside → Outside → Type 0
-PutsLine line whole old new = PutsText old.out line whole new.out × (new.err ≡ old.err)
-
 -- the settings of a replay
 abbrev pub settings_of : Request → Settings
 settings_of r = record { blocks = r.options.blocks; depth = r.options.depth; every = r.options.every }
@@ -197,7 +194,7 @@ CommandTo Plain r status old new = PlainTo r status old new
 CommandTo Rewrite r status old new = RewriteTo r status old new
 CommandTo Run r status old new = RunTo r status old new
 CommandTo Trace r status old new = TraceTo r status old new
-CommandTo Demo r status old new = (status ≡ NotBuilt) × Untouched old new
+CommandTo Demo r status old new = DemoTo r status old new
 CommandTo Replay r status old new = ReplayTo r status old new
 CommandTo Plan r status old new = PlanTo r status old new
 

@@ -1,6 +1,7 @@
 //! The commands of `spechint`, over a store of files and two sinks.
 #![tactic(auto)]
 
+mod demo;
 mod image;
 mod lines;
 mod opening;

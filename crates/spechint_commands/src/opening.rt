@@ -19,7 +19,7 @@ use std::alloc::Global;
 use world_io::BufSink;
 
 /// The rewritten file of an accepted file, in a buffer of its length.
-fn rewritten_file(
+pub(crate) fn rewritten_file(
     alloc: Global,
     bytes: &[u8],
     regions: u32,

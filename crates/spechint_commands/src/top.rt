@@ -9,6 +9,7 @@ ghost use Rattle.spechint_commands.specs.Common.{image_name};
 ghost use Rattle.spechint_commands.specs.Promised.{Promises};
 ghost use Rattle.spechint_commands.specs.Top.{IsOutcome, CommandTo};
 
+use crate::demo::demo;
 use crate::image::image_word;
 use crate::plain::plain;
 use crate::plan::plan;
@@ -43,7 +44,7 @@ fn command<D: Store, O: Sink, E: Sink>(
         Command::Plan => plan(alloc, request, store, out),
         Command::Run => run(alloc, request, store, out, err),
         Command::Trace => trace(alloc, request, store, out),
-        Command::Demo => Status::NotBuilt,
+        Command::Demo => demo(alloc, request, out),
     }
 }
 
@@ -74,8 +75,8 @@ fn outcome<D: Store, O: Sink, E: Sink>(
 
 /// Does what the words of a command line say, over a store of files and two sinks: `plain` runs an
 /// image by itself, `rewrite` puts its rewritten file, `run` runs that beside its shadow, `trace` puts what
-/// its moves tell, `replay` runs a cache again from a trace, and `plan` tells the fewest fetches for one.
-/// `demo` isn't built yet, nor are a trace's lines of uses.
+/// its moves tell, `demo` runs a program of its own, `replay` runs a cache again from a trace, and `plan`
+/// tells the fewest fetches for one. A trace's lines of uses aren't built yet.
 pub fn spechint<D: Store, O: Sink, E: Sink>(
     alloc: Global,
     words: &[String],
