@@ -7,7 +7,9 @@ import sys
 import tempfile
 
 SPECHINT, SAMPLES = sys.argv[1], sys.argv[2]
-WITHOUT, WITH = "O600D4", "O600T600D4"
+# A wait takes as long as so many words: a hundredth of a second, where a hundred million words take a second.
+WORDS = 1_000_000
+WITHOUT, WITH = f"O{WORDS}D4", f"O{WORDS}T{WORDS}D4"
 SIZES = [8, 64, 256]
 
 # ---- what the samples read
