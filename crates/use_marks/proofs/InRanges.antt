@@ -1,5 +1,5 @@
 -- Which addresses lie in ranges, by list and by first addresses.
-use Rattle.std.proofs.Common.{◌≡◌, ℕ, zero, suc, ◌+◌, ◌-◌, ◌≤◌, ◌<◌, ◌⊎◌, inl, inr, Bool, true, false, ◌||◌, List, [], ◌∷◌, Some, slice_get, refl, sym, ◌∙◌, ap, arith, nat_le, nat_lt}
+use Rattle.std.proofs.Common.{◌≡◌, ℕ, zero, suc, ◌+◌, ◌-◌, ◌^◌, ◌≤◌, ◌<◌, ◌⊎◌, inl, inr, Bool, true, false, ◌||◌, List, [], ◌∷◌, Some, slice_get, refl, sym, ◌∙◌, ap, arith, nat_le, nat_lt}
 use Rattle.std.specs.BTreeMap as tree
 use Rattle.std.specs.BTreeMap.{BTreeMap, is_at}
 use Rattle.std.specs.List.{list_any}
@@ -121,8 +121,9 @@ pub any_from-zero : (test : ℕ → Bool) (a n : ℕ) → n ≡ 0 → false ≡ 
 unfolding any_from
 any_from-zero test a n e = rw e refl
 
-module _ (m : BTreeMap ℕ ℕ) (o : tree.IsOrdered nat_cmp m) (kept : IsKept (tree.get nat_cmp m)) (a n : ℕ) (some : 0 < n) where
-  pub any_some : (first last : ℕ) → IsBefore (tree.get nat_cmp m) (a + (n - 1)) first last → nat_le a last ≡ any_from (in_ranges m.entries) a n
+-- of n numbers from a on those up to an end are addresses
+module _ (m : BTreeMap ℕ ℕ) (o : tree.IsOrdered nat_cmp m) (kept : IsKept (tree.get nat_cmp m)) (a n end : ℕ) (some : 0 < n) (inside : end ≤ a + (n - 1)) (all : (x : ℕ) → x < a + n → x < 2 ^ 64 → x ≤ end) where
+  pub any_some : (first last : ℕ) → IsBefore (tree.get nat_cmp m) end first last → nat_le a last ≡ any_from (in_ranges m.entries) a n
   any_some first last b = same_tests (nat_le a last) (any_from (in_ranges m.entries) a n) forth back
     where
       forth : nat_le a last ≡ true → any_from (in_ranges m.entries) a n ≡ true
@@ -131,7 +132,7 @@ module _ (m : BTreeMap ℕ ℕ) (o : tree.IsOrdered nat_cmp m) (kept : IsKept (t
           let u = b.up_to in
           let f = kept.forward first last b.found in
           elim (cases_lt a first) [
-            | inl less ↦ any_from-found (in_ranges m.entries) a n first (omega arith) (omega arith) (in_from_covers m first (record { first = first; last = last; found = b.found; from = omega arith; to = f }))
+            | inl less ↦ any_from-found (in_ranges m.entries) a n first (omega arith) (omega (arith, u, inside, some)) (in_from_covers m first (record { first = first; last = last; found = b.found; from = omega arith; to = f }))
             | inr within ↦ any_from-found (in_ranges m.entries) a n a (omega arith) (omega arith) (in_from_covers m a (record { first = first; last = last; found = b.found; from = within; to = le }))
           ]
 
@@ -140,11 +141,12 @@ module _ (m : BTreeMap ℕ ℕ) (o : tree.IsOrdered nat_cmp m) (kept : IsKept (t
           let x = any_from-place (in_ranges m.entries) a n t in
           let c = covered m o x.0 x.3 in
           let f = c.from in
-          let p = latest_covers m o kept (a + (n - 1)) first last x.0 b c (omega (arith, x.2)) in
+          let low : x.0 ≤ end = all x.0 x.2 (omega (arith, c.to, kept.addresses c.first c.last c.found)) in
+          let p = latest_covers m o kept end first last x.0 b c (omega (arith, low)) in
           let le : a ≤ last = omega (arith, x.1) in
           grind (arith, nat_tests, le)
 
-  pub any_none : ((first last : ℕ) → tree.get nat_cmp m first ≡ Some last → a + (n - 1) < first) → false ≡ any_from (in_ranges m.entries) a n
+  pub any_none : ((first last : ℕ) → tree.get nat_cmp m first ≡ Some last → end < first) → false ≡ any_from (in_ranges m.entries) a n
   any_none none =
       sym
       (false_from_ne_true (any_from (in_ranges m.entries) a n) (λ t.
@@ -152,7 +154,8 @@ module _ (m : BTreeMap ℕ ℕ) (o : tree.IsOrdered nat_cmp m) (kept : IsKept (t
       let c = covered m o x.0 x.3 in
       let p = none c.first c.last c.found in
       let f = c.from in
-      omega (arith, x.2)))
+      let low : x.0 ≤ end = all x.0 x.2 (omega (arith, c.to, kept.addresses c.first c.last c.found)) in
+      omega (arith, low)))
 
 -- ---- changes
 

@@ -1,9 +1,8 @@
--- How many bytes of a name are looked at, and that data ends below 2^64.
-use Rattle.std.proofs.Common.{◌≡◌, ℕ, zero, suc, ◌+◌, ◌-◌, ◌≤◌, ◌<◌, ◌^◌, Bool, true, false, Option, Some, None, refl, sym, ◌∙◌, ap, arith, ◌==◌, is_some, unwrap_or, nat_lt}
-use Rattle.std.proofs.lemmas.Bool.{and_parts}
+-- How many bytes of a name are looked at.
+use Rattle.std.proofs.Common.{◌≡◌, ℕ, zero, suc, ◌+◌, ◌-◌, ◌<◌, Bool, true, false, Option, Some, None, refl, sym, ◌∙◌, ap, arith, ◌==◌, is_some, unwrap_or}
 use Rattle.std.proofs.lemmas.Bool.Decides.{nat_tests}
-use Rattle.rv_model.specs.Memory.{Memory, all_from}
-use Rattle.rv_model.specs.Data.{byte_if, byte_in, data_in, memory_in}
+use Rattle.rv_model.specs.Memory.{Memory}
+use Rattle.rv_model.specs.Data.{byte_in, data_in, memory_in}
 use Rattle.run_model.specs.Restarts.{name_length}
 use Rattle.use_marks.specs.Passing.{name_bytes}
 
@@ -18,18 +17,6 @@ length-last d m a n e z = rw (name_length, e, z) refl
 
 length-next : (d : ℕ → Bool) (m : Memory) (a n : ℕ) → d a ≡ true → (m a == 0) ≡ false → name_length d m a (suc n) ≡ suc (name_length d m (a + 1) n)
 length-next d m a n e z = rw (name_length, e, z) refl
-
-length-fits : (d : ℕ → Bool) (m : Memory) (end : ℕ) → ((a : ℕ) → d a ≡ true → a < end) → (a n : ℕ) → a ≤ end → a + name_length d m a n ≤ end
-length-fits d m end below a zero le = omega arith
-length-fits d m end below a (suc n) le = by_data (length-fits d m end below (a + 1) n) (d a) refl
-  where
-    by_zero : d a ≡ true → (a + 1 ≤ end → a + 1 + name_length d m (a + 1) n ≤ end) → (b : Bool) → (m a == 0) ≡ b → a + name_length d m a (suc n) ≤ end
-    by_zero e rest true z = let p = below a e in omega (arith, length-last d m a n e z)
-    by_zero e rest false z = let p = below a e in let q = rest (omega arith) in omega (arith, length-next d m a n e z)
-
-    by_data : (a + 1 ≤ end → a + 1 + name_length d m (a + 1) n ≤ end) → (b : Bool) → d a ≡ b → a + name_length d m a (suc n) ≤ end
-    by_data rest true e = by_zero e rest (m a == 0) refl
-    by_data rest false e = omega (arith, length-none d m a (suc n) e)
 
 -- ---- by bytes
 
@@ -73,25 +60,3 @@ next-of f a d b n h e p =
 
 pub name_bytes-next : (f : ℕ → Option ℕ) (a d b : ℕ) → d < 256 → byte_in f (a + d) ≡ Some b → (b ≡ 0 → ⊥) → name_bytes f (a + d) (256 - d) ≡ suc (name_bytes f (a + (d + 1)) (256 - (d + 1)))
 name_bytes-next f a d b h e p = next-of f a d b 256 h e p
-
--- ---- data ends below 2^64
-
-pub data_below : (f : ℕ → Option ℕ) (a : ℕ) → data_in f a ≡ true → a < 2 ^ 64
-data_below f a h = by_test (nat_lt a (2 ^ 64)) refl h
-  where
-    by_test : (b : Bool) → nat_lt a (2 ^ 64) ≡ b → is_some (byte_if b (f a)) ≡ true → a < 2 ^ 64
-    by_test true e h = grind (arith, nat_tests, e)
-    by_test false e h = absurd (let bad : false ≡ true = h in cc)
-
-pub name_fits : (f : ℕ → Option ℕ) (a n : ℕ) → a ≤ 2 ^ 64 → a + name_bytes f a n ≤ 2 ^ 64
-unfolding name_bytes
-name_fits f a n le = length-fits (data_in f) (memory_in f) (2 ^ 64) (data_below f) a n le
-
-pub data_fits : (f : ℕ → Option ℕ) (a n : ℕ) → a ≤ 2 ^ 64 → all_from (data_in f) a n ≡ true → a + n ≤ 2 ^ 64
-unfolding all_from
-data_fits f a zero le h = omega arith
-data_fits f a (suc n) le h =
-    let p = and_parts (data_in f a) (all_from (data_in f) (a + 1) n) h in
-    let b = data_below f a p.0 in
-    let q = data_fits f (a + 1) n (omega arith) p.1 in
-    omega arith

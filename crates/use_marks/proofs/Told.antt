@@ -31,7 +31,7 @@ listed_append numbers k n = list_any-append (λ (m : ℕ). m == n) numbers (k �
     last false true = refl
     last false false = refl
 
-listed_other : (numbers : List ℕ) (k n : ℕ) → (k == n) ≡ false → is_listed (numbers ++ k ∷ []) n ≡ is_listed numbers n
+pub listed_other : (numbers : List ℕ) (k n : ℕ) → (k == n) ≡ false → is_listed (numbers ++ k ∷ []) n ≡ is_listed numbers n
 listed_other numbers k n e = listed_append numbers k n ∙ no_more (is_listed numbers n) (k == n) e
   where
     no_more : (a b : Bool) → b ≡ false → (a || b) ≡ a

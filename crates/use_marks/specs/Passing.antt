@@ -1,5 +1,5 @@
 -- What one instruction makes of marks, and whether it uses one, by what hart and memory show of it (this project's own).
-use Rattle.std.specs.Prelude.{ℕ, ◌+◌, ◌^◌, nat_le, ◌%◌, ◌≡◌, IsTrue, Bool, true, false, ◌||◌, ◌==◌, Option, if◌then◌else◌}
+use Rattle.std.specs.Prelude.{ℕ, ◌%◌, ◌≡◌, ⊤, IsTrue, Bool, true, false, ◌||◌, ◌==◌, Option, if◌then◌else◌}
 use Rattle.spec_base.specs.Word.{plus_int}
 use Rattle.spec_base.specs.declared.layout.Layout.{Layout}
 use Rattle.rv_decode.specs.declared.instr.Instr.{Instr}
@@ -13,6 +13,7 @@ use Rattle.program_model.specs.Calls.{CallKind, Open, OpenAt, kind_of}
 use Rattle.program_model.specs.PlainRun.{State}
 use Rattle.run_model.specs.Restarts.{Action, Reads, name_length}
 use Rattle.run_model.specs.Marks.{Marks, mark_register, mark_bytes}
+use Rattle.use_marks.specs.Ranges.{Fits}
 use Rattle.use_marks.specs.declared.read_mark.ReadMark.{ReadMark}
 use Rattle.use_marks.specs.declared.read_mark.ReadMark.TheVariants as reads
 
@@ -45,22 +46,23 @@ read_mark true (Reads spot a) = reads.Filled a spot.count
 read_mark false (Reads spot a) = reads.Left a spot.count
 read_mark filled _ = reads.None
 
--- the bytes of a read end below 2^64, as data does
-abbrev pub read_fits : ReadMark → Bool
-read_fits reads.None = true
-read_fits (reads.Left a n) = nat_le (a + n) (2 ^ 64)
-read_fits (reads.Filled a n) = nat_le (a + n) (2 ^ 64)
-
 -- what a load or a store touches is data
 abbrev pub touches_data : (ℕ → Bool) → Registers → Instr → Bool
 touches_data data_at rs (Load op rd rs1 imm) = all_from data_at (plus_int (reg rs rs1) imm) (load_width op)
 touches_data data_at rs (Store op rs1 rs2 imm) = all_from data_at (plus_int (reg rs rs1) imm) (store_width op)
 touches_data data_at rs other = true
 
--- what an instruction touches is data, as it is where it completes
-abbrev pub has_data : (ℕ → Bool) → Registers → Instr → ReadMark → Bool
-has_data data_at rs Ecall read = read_fits read
-has_data data_at rs other read = touches_data data_at rs other
+-- the bytes of a read end below 2^64
+abbrev pub ReadFits : ReadMark → Type 0
+ReadFits reads.None = ⊤
+ReadFits (reads.Left a n) = Fits a n
+ReadFits (reads.Filled a n) = Fits a n
+
+-- the bytes that a store or a read marks or clears do
+abbrev pub SetsFit : Registers → Instr → ReadMark → Type 0
+SetsFit rs (Store op rs1 rs2 imm) read = Fits (plus_int (reg rs rs1) imm) (store_width op)
+SetsFit rs Ecall read = ReadFits read
+SetsFit rs other read = ⊤
 
 -- ---- marks after an instruction
 

@@ -15,6 +15,10 @@ in_ranges ranges a = list_any (λ e. is_between e.0 e.1 a) ranges
 abbrev pub with_range : (ℕ → Bool) → ℕ → ℕ → Bool → ℕ → Bool
 with_range bytes base n marked a = elim (is_within base n a) [ true ↦ marked | false ↦ bytes a ]
 
+-- n addresses from one on end below 2^64
+abbrev pub Fits : ℕ → ℕ → Type 0
+Fits a n = 0 < n → a + n ≤ 2 ^ 64
+
 -- ---- by the ranges' first addresses: what a map has at each
 
 -- a range has an address

@@ -1,16 +1,15 @@
 //! What an instruction touches.
 
-ghost use Rattle.std.specs.Prelude.{◌≡◌, ◌+◌, ◌^◌, ◌<◌, nat_le};
+ghost use Rattle.std.specs.Prelude.{◌≡◌, ◌+◌, ◌<◌};
 ghost use Rattle.spec_base.specs.Word.{plus_int};
 ghost use Rattle.rv_model.specs.Registers.{reg};
 ghost use Rattle.rv_model.specs.Arithmetic.{load_width, store_width};
-ghost use Rattle.rv_model.specs.Data.{byte_in, data_in};
-ghost use Rattle.use_marks.specs.Passing.{has_data, name_bytes};
+ghost use Rattle.rv_model.specs.Data.{byte_in};
+ghost use Rattle.use_marks.specs.Passing.{name_bytes};
 ghost use Rattle.hart_step.specs.Core.{core_of};
 
-use crate::read_mark::ReadMark;
 use hart_step::Hart;
-use rv_decode::{Instr, LoadOp, StoreOp};
+use rv_decode::{LoadOp, StoreOp};
 use rv_model::Bytes;
 use spec_base::Reg;
 
@@ -50,38 +49,6 @@ pub(crate) fn store_bytes(op: StoreOp) -> u64
         StoreOp::Sh => 2,
         StoreOp::Sw => 4,
         StoreOp::Sd => 8,
-    }
-}
-
-/// Whether what an instruction loads or stores is data, and the bytes of a read are addresses. So it
-/// is where the instruction completes.
-pub fn is_within_data<B: Bytes>(instr: Instr, before: &Hart, mem: &B, read: ReadMark) -> bool
-    ensures { result ≡ has_data (data_in (B.byte_at mem.now)) (core_of before.now).registers instr read }
-{
-    match instr {
-        Instr::Load { op, rs1, imm, .. } => {
-            mem.is_all_data(address_of(before, rs1, imm), load_bytes(op))
-        }
-        Instr::Store { op, rs1, imm, .. } => {
-            mem.is_all_data(address_of(before, rs1, imm), store_bytes(op))
-        }
-        Instr::Ecall => match read {
-            ReadMark::None => true,
-            ReadMark::Left { address, count } | ReadMark::Filled { address, count } => {
-                are_addresses(address, count)
-            }
-        },
-        _ => true,
-    }
-}
-
-// Whether the last of so many bytes from an address on has an address.
-fn are_addresses(address: u64, count: u64) -> bool
-    ensures { result ≡ nat_le (address + count) (2 ^ 64) }
-{
-    match count.checked_sub(1) {
-        Some(rest) => address.checked_add(rest).is_some(),
-        None => true,
     }
 }
 

@@ -1,7 +1,7 @@
 //! Marks: which registers and which bytes may rest on a byte that a skipped read left unfilled, kept
-//! along the instructions of the run from a restart, and the first use of such a value. The trace of
-//! `trace --uses` is to keep them (`Marks::pass` after each own instruction), and to cite
-//! `marks_are_told` for the place of the first use.
+//! along the instructions of the run from a restart, and the first use of such a value. A trace with
+//! `--uses` keeps them (`Marks::pass` after each own instruction), and cites `uses_are_told` for the
+//! place of the first use.
 #![tactic(auto)]
 
 mod access;
@@ -13,7 +13,6 @@ mod read_mark;
 #[cfg(test)]
 mod tests;
 
-pub use access::is_within_data;
-pub use laws::{completed_touches_data, marks_are_told};
+pub use laws::{completed_touches_data, fills_are_settled, marks_are_told, uses_are_told};
 pub use marks::Marks;
 pub use read_mark::ReadMark;

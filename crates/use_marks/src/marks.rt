@@ -1,6 +1,6 @@
 //! The marks along a run.
 
-ghost use Rattle.std.specs.Prelude.{◌≡◌, ◌+◌, ◌^◌, ◌≤◌, ◌%◌, ◌==◌, ◌||◌, IsTrue, Bool, false, if◌then◌else◌, Some, IfOk, OnOk, OnErr};
+ghost use Rattle.std.specs.Prelude.{◌≡◌, ◌%◌, ◌==◌, ◌||◌, IsTrue, Bool, false, if◌then◌else◌, Some, IfOk, OnOk, OnErr};
 ghost use Rattle.spec_base.specs.Word.{plus_int};
 ghost use Rattle.spec_base.specs.declared.layout.Layout.{Layout};
 ghost use Rattle.rv_model.specs.Memory.{any_from};
@@ -10,10 +10,11 @@ ghost use Rattle.program_model.specs.Calls.{kind_of};
 ghost use Rattle.program_model.specs.PlainRun.{State};
 ghost use Rattle.run_model.specs.Restarts.{instr_action};
 ghost use Rattle.run_model.specs.Marks.{no_marks, mark_register, mark_bytes, marks_after, is_use};
-ghost use Rattle.rv_model.specs.Data.{data_in};
+ghost use Rattle.rv_model.specs.Rights.{is_data};
 ghost use Rattle.hart_step.specs.Core.{core_of};
+ghost use Rattle.use_marks.specs.Ranges.{Fits};
 ghost use Rattle.use_marks.specs.Marked.{marks_of};
-ghost use Rattle.use_marks.specs.Passing.{Sees, read_mark, has_data, read_fits, past, past_call, uses, name_used, marked_name};
+ghost use Rattle.use_marks.specs.Passing.{Sees, read_mark, touches_data, SetsFit, ReadFits, past, past_call, uses, name_used, marked_name};
 
 use crate::access::{address_of, load_bytes, name_length, store_bytes, value};
 use crate::ranges::Ranges;
@@ -67,7 +68,7 @@ impl Marks {
     /// Takes the marks past an instruction that completed from `before`, and tells whether the
     /// instruction uses one. What is told of a read counts at a call alone, and `mem` where a call
     /// looks at a name: so it may be the memory after the instruction. After an Err the marks are
-    /// as before.
+    /// as before. An instruction that completes touches data alone, so the marks are true after it.
     pub fn pass<B: Bytes>(
         &mut self,
         instr: &Instr,
@@ -75,9 +76,8 @@ impl Marks {
         mem: &B,
         read: ReadMark,
     ) -> Result<bool, NoMemory>
-        requires { IsTrue (has_data (data_in (B.byte_at mem.now)) (core_of before.now).registers instr.now read) }
         ensures used { IfOk result (λ used. (l : Layout) (s : State) → Sees (B.byte_at mem.now) (core_of before.now).registers instr.now l s → used ≡ is_use l s (Some instr.now) (marks_of self.old)) }
-        ensures passed { OnOk result ((l : Layout) (filled : Bool) (s : State) → Sees (B.byte_at mem.now) (core_of before.now).registers instr.now l s → read ≡ read_mark filled (instr_action l s (Some instr.now)) → marks_of self.new ≡ marks_after l filled s (Some instr.now) (marks_of self.old)) }
+        ensures passed { OnOk result ((l : Layout) (filled : Bool) (s : State) → Sees (B.byte_at mem.now) (core_of before.now).registers instr.now l s → IsTrue (touches_data (is_data l) (core_of before.now).registers instr.now) → read ≡ read_mark filled (instr_action l s (Some instr.now)) → marks_of self.new ≡ marks_after l filled s (Some instr.now) (marks_of self.old)) }
         ensures err { OnErr result (marks_of self.new ≡ marks_of self.old) }
     {
         let used = self.is_used(*instr, before, mem);
@@ -152,8 +152,7 @@ impl Marks {
         mem: &B,
         read: ReadMark,
     ) -> Result<(), NoMemory>
-        requires { IsTrue (has_data (data_in (B.byte_at mem.now)) (core_of before.now).registers instr read) }
-        ensures ok { OnOk result (marks_of self.new ≡ past (core_of before.now).registers instr read (marks_of self.old)) }
+        ensures ok { OnOk result (SetsFit (core_of before.now).registers instr read → marks_of self.new ≡ past (core_of before.now).registers instr read (marks_of self.old)) }
         ensures err { OnErr result (marks_of self.new ≡ marks_of self.old) }
     {
         match instr {
@@ -187,8 +186,7 @@ impl Marks {
 
     // Takes the marks past a call.
     fn go_past_call(&mut self, read: ReadMark) -> Result<(), NoMemory>
-        requires { IsTrue (read_fits read) }
-        ensures ok { OnOk result (marks_of self.new ≡ past_call read (marks_of self.old)) }
+        ensures ok { OnOk result (ReadFits read → marks_of self.new ≡ past_call read (marks_of self.old)) }
         ensures err { OnErr result (marks_of self.new ≡ marks_of self.old) }
     {
         match read {
@@ -228,8 +226,7 @@ impl Marks {
 
     // Marks or clears so many bytes from an address on.
     fn set_bytes(&mut self, address: u64, count: u64, marked: bool) -> Result<(), NoMemory>
-        requires { address + count ≤ 2 ^ 64 }
-        ensures ok { OnOk result (marks_of self.new ≡ mark_bytes (marks_of self.old) address count marked) }
+        ensures ok { OnOk result (Fits address count → marks_of self.new ≡ mark_bytes (marks_of self.old) address count marked) }
         ensures err { OnErr result (marks_of self.new ≡ marks_of self.old) }
     {
         self.bytes.set(address, count, marked)?;

@@ -1,10 +1,10 @@
 //! Addresses, kept as ascending ranges.
 
-ghost use Rattle.std.specs.Prelude.{◌≡◌, ℕ, ◌+◌, ◌^◌, ◌≤◌, false, OnOk, OnErr};
+ghost use Rattle.std.specs.Prelude.{◌≡◌, ℕ, false, OnOk, OnErr};
 ghost use Rattle.std.specs.BTreeMap as tree;
 ghost use Rattle.std.specs.Ordering.{nat_cmp};
 ghost use Rattle.rv_model.specs.Memory.{any_from};
-ghost use Rattle.use_marks.specs.Ranges.{in_ranges, with_range, IsKept};
+ghost use Rattle.use_marks.specs.Ranges.{in_ranges, with_range, Fits, IsKept};
 
 #[cfg(test)]
 mod tests;
@@ -51,32 +51,31 @@ impl Ranges {
 
     /// Whether one of so many addresses from one on is among them.
     pub fn contains_any(&self, address: u64, count: u64) -> bool
-        requires { address + count ≤ 2 ^ 64 }
         ensures { result ≡ any_from (in_ranges self.now.last_by_first.entries) address count }
     {
         if count == 0 {
             return false;
         }
-        match before(&self.last_by_first, address + (count - 1)) {
+        match before(&self.last_by_first, address.saturating_add(count - 1)) {
             Some((_, last)) => address <= last,
             None => false,
         }
     }
 
-    /// Adds so many addresses from one on (true), or takes them away.
+    /// Adds so many addresses from one on (true), or takes them away; there are none from 2^64 on.
     pub fn set(&mut self, address: u64, count: u64, marked: bool) -> Result<(), NoMemory>
-        requires { address + count ≤ 2 ^ 64 }
-        ensures ok { OnOk result ((a : ℕ) → in_ranges self.new.last_by_first.entries a ≡ with_range (in_ranges self.old.last_by_first.entries) address count marked a) }
+        ensures ok { OnOk result (Fits address count → (a : ℕ) → in_ranges self.new.last_by_first.entries a ≡ with_range (in_ranges self.old.last_by_first.entries) address count marked a) }
         ensures err { OnErr result (self.new.last_by_first.entries ≡ self.old.last_by_first.entries) }
     {
         if count == 0 {
             return Ok(());
         }
+        let last = address.saturating_add(count - 1);
         if marked {
-            add(&mut self.last_by_first, address, address + (count - 1))?;
+            add(&mut self.last_by_first, address, last)?;
             return Ok(());
         }
-        take(&mut self.last_by_first, address, address + (count - 1))?;
+        take(&mut self.last_by_first, address, last)?;
         Ok(())
     }
 }

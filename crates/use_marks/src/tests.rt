@@ -2,7 +2,7 @@
 
 ghost use Rattle.std.specs.Prelude.{◌-◌, None, slice_get, nat_lt, if◌then◌else◌};
 
-use crate::{Marks, ReadMark, is_within_data};
+use crate::{Marks, ReadMark};
 use hart_step::Hart;
 use rv_decode::{BranchOp, ImmOp, Instr, LoadOp, RegOp, StoreOp};
 use rv_model::Bytes;
@@ -145,11 +145,7 @@ fn memory(alloc: Global) -> Result<Stretch, NoMemory> {
 
 // Passes a step from a hart, and tells whether it is a use.
 fn pass(marks: &mut Marks, step: Step, hart: &Hart, mem: &Stretch) -> Result<bool, NoMemory> {
-    if is_within_data(step.0, hart, mem, step.1) {
-        marks.pass(&step.0, hart, mem, step.1)
-    } else {
-        Err(NoMemory)
-    }
+    marks.pass(&step.0, hart, mem, step.1)
 }
 
 // The number of the first step that is a use, from 1; 0 if none is.

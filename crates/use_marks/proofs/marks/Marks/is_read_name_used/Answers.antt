@@ -3,11 +3,7 @@ use Rattle.std.proofs.lemmas.Bool.Decides.{nat_tests}
 use Rattle.rv_model.specs.Memory.{any_from}
 use Rattle.use_marks.specs.Ranges.{in_ranges}
 use Rattle.use_marks.specs.Marked.{marks_of}
-use Rattle.use_marks.proofs.Names.{name_fits}
 use Rattle.use_marks.proofs.marks.Marks.is_read_name_used.Goals as goal
-
-pub contains_any-requires : goal.contains_any-requires
-contains_any-requires g c = omega (arith, name_fits (g.B.Bytes.byte_at c.args.mem.now) c.args.address 256 (omega arith), c.name_length.ensures)
 
 pub returns-then-flags-eq0 : goal.returns-then-flags-eq0
 unfolding marks_of

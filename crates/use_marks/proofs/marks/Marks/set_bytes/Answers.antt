@@ -12,5 +12,5 @@ returns-in_err-set-clause-err c =
 
 pub returns-clause-ok : goal.returns-clause-ok
 unfolding marks_of
-returns-clause-ok c =
-    same_marks _ (mark_bytes (marks_of c.args.self.now) c.args.address c.args.count c.args.marked) (λ n. refl) c.in_ok-set.ensures.ok
+returns-clause-ok c = λ fits.
+    same_marks _ (mark_bytes (marks_of c.args.self.now) c.args.address c.args.count c.args.marked) (λ n. refl) (c.in_ok-set.ensures.ok fits)

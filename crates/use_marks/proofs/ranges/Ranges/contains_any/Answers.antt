@@ -7,7 +7,7 @@ pub returns-then-count-eq0 : goal.returns-then-count-eq0
 returns-then-count-eq0 c = any_from-zero (in_ranges c.args.self.now.last_by_first.entries) c.args.address c.args.count c.if-count-eq0.true
 
 pub returns-in-Some : goal.returns-in-Some
-returns-in-Some c = any_some c.args.self.now.last_by_first c.in-Some.ensures.ordered c.args.self.now.kept c.args.address c.args.count (omega (arith, c.if-count-eq0.false)) c.in-Some.field-0-0 c.in-Some.last c.in-Some.ensures.some
+returns-in-Some c = any_some c.args.self.now.last_by_first c.in-Some.ensures.ordered c.args.self.now.kept c.args.address c.args.count c.saturating_add.result (omega (arith, c.if-count-eq0.false)) (omega (arith, c.saturating_add.ensures)) (λ x h l. omega (arith, h, l, c.saturating_add.ensures)) c.in-Some.field-0-0 c.in-Some.last c.in-Some.ensures.some
 
 pub returns-in-None : goal.returns-in-None
-returns-in-None c = any_none c.args.self.now.last_by_first c.in-None.ensures.ordered c.args.self.now.kept c.args.address c.args.count (omega (arith, c.if-count-eq0.false)) c.in-None.ensures.none
+returns-in-None c = any_none c.args.self.now.last_by_first c.in-None.ensures.ordered c.args.self.now.kept c.args.address c.args.count c.saturating_add.result (omega (arith, c.if-count-eq0.false)) (omega (arith, c.saturating_add.ensures)) (λ x h l. omega (arith, h, l, c.saturating_add.ensures)) c.in-None.ensures.none
