@@ -40,7 +40,7 @@ program-step : (w : World) (r : Run) (x : Answer) → IsInProgram r → step w r
 program-step w r x at = word-step w r at.on x at.goes ∙ ap (λ (v : View). own_in v w x (begun r)) at.view
 
 -- it asks nothing
-program-hears : (w : World) (r : Run) (o : Outside) → IsInProgram r → Hears w r O Usual o o
+pub program-hears : (w : World) (r : Run) (o : Outside) → IsInProgram r → Hears w r O Usual o o
 program-hears w r o at =
     silent-hears w r O o
     (word-asks w r at.on at.goes
@@ -165,7 +165,7 @@ pub record HasRun (w : World) (ms : Moves) (before here : Outside) : Type 0 wher
   pub goes : (run w ms).end ≡ None
   pub heard : AreHeard w ms before here
 
-next-HasRun : (w : World) (ms : Moves) (m : Move) (before here : Outside) → HasRun w ms before here → Hears w (run w ms) m Usual here here → (step w (run w ms) (m, Usual)).end ≡ None
+pub next-HasRun : (w : World) (ms : Moves) (m : Move) (before here : Outside) → HasRun w ms before here → Hears w (run w ms) m Usual here here → (step w (run w ms) (m, Usual)).end ≡ None
     → HasRun w (ms ++ (m, Usual) ∷ []) before here
 next-HasRun w ms m before here has hears on =
     record {

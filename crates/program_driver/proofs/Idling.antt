@@ -128,7 +128,7 @@ pub idles-length : (k : ℕ) (m : Move) → length (idles k m) ≡ k
 idles-length zero m = refl
 idles-length (suc k) m = ap suc (idles-length k m)
 
-idles-firsts : (k : ℕ) (m : Move) → firsts (idles k m) ≡ replicate k m
+pub idles-firsts : (k : ℕ) (m : Move) → firsts (idles k m) ≡ replicate k m
 idles-firsts zero m = refl
 idles-firsts (suc k) m = ap (λ l. m ∷ l) (idles-firsts k m)
 

@@ -10,3 +10,4 @@ mod Idling
 mod Passing
 mod AtOnce
 mod Stretching
+mod Silent

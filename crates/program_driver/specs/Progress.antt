@@ -1,5 +1,5 @@
 -- How far a runner has come with the moves of a pattern (this project's own).
-use Rattle.std.specs.Prelude.{◌≡◌, ℕ, List, ◌++◌, map, replicate, Option, Some, None}
+use Rattle.std.specs.Prelude.{◌≡◌, ℕ, ◌-◌, List, ◌++◌, map, replicate, Option, Some, None}
 use Rattle.spec_base.specs.Files.{Files}
 use Rattle.spec_base.specs.declared.note.Move.{Move}
 use Rattle.run_model.specs.Run.{World, opened_run}
@@ -50,6 +50,10 @@ MakesStretch m count ending now new here after =
 -- of the moves that come next some were made, whatever moves were made before them, and nothing was asked: these are left
 abbrev pub MakesFront : List Move → List Move → Runner → Runner → Outside → Type 0
 MakesFront coming left now new here = (pattern : Pattern) (turns : ℕ) (old : Runner) (before : Outside) → Progress pattern turns coming old now before here → Progress pattern turns left old new before here
+
+-- of so many equal moves that come next these many were made, and nothing was asked
+abbrev pub MakesSome : Move → ℕ → ℕ → Runner → Runner → Type 0
+MakesSome m most made now new = (here : Outside) (left : List Move) → MakesFront (replicate most m ++ left) (replicate (most - made) m ++ left) now new here
 
 -- ---- a trace
 

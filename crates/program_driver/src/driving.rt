@@ -6,7 +6,7 @@ ghost use Rattle.runner.specs.Causes.{IsLater};
 ghost use Rattle.run_promises.specs.Schedules.{MovesTo};
 ghost use Rattle.plain_runner.specs.Runs.{Outside};
 ghost use Rattle.program_driver.specs.Causes.{HasCause};
-ghost use Rattle.program_driver.specs.Progress.{MakesStretch, MakesFront};
+ghost use Rattle.program_driver.specs.Progress.{MakesStretch, MakesFront, MakesSome};
 ghost use Rattle.program_driver.specs.Runs.{Drives};
 
 use crate::advancing::advance;
@@ -16,8 +16,28 @@ use runner::Runner;
 use spec_base::{List, Move};
 use world_io::{Sink, Store};
 
-/// Makes a move so many times, at once where it does nothing but count. Answers how that ends the run,
-/// if it does.
+/// Makes the first of so many equal moves at once, as far as they are words that ask nothing. Answers how
+/// many it made.
+fn make_at_once(runner: &mut Runner, step: Move, most: u64) -> u64
+    requires few { runner.old.counts.moves + most ≤ 2 ^ 63 }
+    ensures most { result ≤ most }
+    ensures goes { MakesSome step most result runner.old runner.new }
+    ensures moves { runner.new.counts.moves ≡ runner.old.counts.moves + result }
+    ensures end { runner.new.end ≡ runner.old.end }
+{
+    if most == 0 || runner.rests(step) {
+        return 0;
+    }
+    match step {
+        Move::O => runner.go_own(most),
+        Move::S => runner.go_shadow(most),
+        Move::T => runner.go_shadow(most),
+        Move::D => 0,
+    }
+}
+
+/// Makes a move so many times, at once where it does nothing but count, and many of its words at once.
+/// Answers how that ends the run, if it does.
 fn drive_stretch<D: Store, O: Sink, E: Sink>(
     runner: &mut Runner,
     step: Move,
@@ -37,7 +57,8 @@ fn drive_stretch<D: Store, O: Sink, E: Sink>(
         (record { store = D.state store.new; out = O.state out.new; err = E.state err.new })) }
     ensures goes_on { runner.old.end ≡ None → result ≡ None → runner.new.end ≡ None }
 {
-    for made in 0..count {
+    let mut made = 0;
+    while made < count {
         if runner.rests(step) {
             runner.rest(count - made);
             return None;
@@ -45,6 +66,8 @@ fn drive_stretch<D: Store, O: Sink, E: Sink>(
         if let Some(ending) = advance(runner, step, store, out, err) {
             return Some(ending);
         }
+        made += 1;
+        made += make_at_once(runner, step, count - made);
     }
     None
 }

@@ -9,6 +9,7 @@ pub mod Hearing
 pub mod Filled
 pub mod ShadowPlans
 pub mod ShadowSteps
+pub mod Ahead
 pub mod FetchSteps
 pub mod MovesMade
 pub mod Stretched

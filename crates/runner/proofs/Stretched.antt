@@ -1,15 +1,17 @@
 -- The run after words of the program that steps of the own hart completed.
 use Rattle.std.proofs.Common.{◌≡◌, ◌≢◌, ℕ, zero, suc, ◌+◌, ◌≤◌, Bool, true, false, ◌&&◌, ◌||◌, ◌==◌, nat_le, IsTrue, [], None, inl, inr, refl, sym, ap, subst, ◌∙◌, arith}
+use Rattle.std.specs.Prelude.{replicate}
 use Rattle.std.proofs.lemmas.Bool.Decides.{nat_tests}
 use Rattle.spec_base.specs.declared.machine.View.{View}
 use Rattle.spec_base.specs.declared.machine.View.TheVariants.{Program}
+use Rattle.spec_base.specs.declared.note.Move.{Move}
 use Rattle.spec_base.specs.declared.note.Move.TheVariants.{O}
 use Rattle.rv_decode.specs.declared.instr.Instr.{Instr}
 use Rattle.rv_decode.specs.declared.instr.Instr.TheVariants.{Hgate}
 use Rattle.rv_model.specs.Effect.{Effect, Next, Stored, Trapped, Called, Gated, gate_effect}
 use Rattle.rv_model.specs.Space.{Space}
 use Rattle.program_model.specs.PlainRun.{State}
-use Rattle.run_model.specs.Run.{World, Run, Usual}
+use Rattle.run_model.specs.Run.{World, Run, Answer, Usual}
 use Rattle.run_model.specs.OwnMoves.{stays_behind, own_in}
 use Rattle.run_model.specs.Moves.{begun, step, run_from}
 use Rattle.run_laws.specs.OwnLaws.{Accepted}
@@ -109,12 +111,12 @@ done-view : (lacks : ℕ → Bool) (c d : Core) (s t : Space) → c.view ≡ Pro
 done-view lacks c d s t view so =
     ap (λ (o : Outcome). o.core.view) so ∙ done-by lacks (effect_here c s) c s (of-program c s view) (sym (ap (λ (o : Outcome). o.event) so)) ∙ view
 
--- ---- moves of the own hart, one by one
+-- ---- equal moves, one by one
 
-own_moves-snoc : (n : ℕ) (w : World) (r : Run) → run_from w r (own_moves (suc n)) ≡ step w (run_from w r (own_moves n)) (O, Usual)
+pub equal-snoc : (n : ℕ) (w : World) (r : Run) (m : Move × Answer) → run_from w r (replicate (suc n) m) ≡ step w (run_from w r (replicate n m)) m
 unfolding run_from
-own_moves-snoc zero w r = refl
-own_moves-snoc (suc n) w r = own_moves-snoc n w (step w r (O, Usual))
+equal-snoc zero w r m = refl
+equal-snoc (suc n) w r m = equal-snoc n w (step w r m) m
 
 words-snoc : (n : ℕ) (w : World) (r : Run) → AreOwnWords w n r → IsInProgram (run_from w r (own_moves n)) → (step w (run_from w r (own_moves n)) (O, Usual)).end ≡ None → AreOwnWords w (suc n) r
 unfolding run_from
@@ -228,7 +230,7 @@ module _ (w : World) (r : Run) (a : Accepted w) (in_program : IsInProgram r) (h 
     done-Stands lacks d t so =
         let goes : ProgramGoes event.Done w (begun q) d t = next-goes lacks event.Done (λ e. cc) d t so in
         let moved : step w q (O, Usual) ≡ completed (begun q) d t = next-step ∙ goes.leads Usual in
-        let next : run_from w r (own_moves (suc n)) ≡ completed (begun q) d t = own_moves-snoc n w r ∙ moved in
+        let next : run_from w r (own_moves (suc n)) ≡ completed (begun q) d t = equal-snoc n w r (O, Usual) ∙ moved in
         let end : (step w q (O, Usual)).end ≡ None = ap (λ (x : Run). x.end) moved ∙ stands-IsInProgram.on in
         record {
           words = words-snoc n w r stands.words stands-IsInProgram end;
@@ -280,7 +282,7 @@ module _ (w : World) (r : Run) (a : Accepted w) (in_program : IsInProgram r) (h 
                 words = words-snoc n w r came.words in_q (ap (λ (x : Run). x.end) moved ∙ in_q.on);
                 at = to.at;
                 here = to.here;
-                is = own_moves-snoc n w r ∙ moved ∙ ap (λ (x : Run). gate_met (begun x) d t) came.is;
+                is = equal-snoc n w r (O, Usual) ∙ moved ∙ ap (λ (x : Run). gate_met (begun x) d t) came.is;
                 side = goes.side;
                 space = goes.space ∙ ap (λ (x : Run). space_of_run w (with_own (begun x) d t)) came.is ∙ done-with n w r to.at d to.here t;
               })

@@ -1,9 +1,11 @@
--- Words of the program that the own hart makes one after the other (this project's own).
+-- Words that one hart makes one after the other: those of the program, and those of the shadow (this project's own).
 use Rattle.std.specs.Prelude.{◌≡◌, ℕ, zero, suc, ◌+◌, false, ◌&&◌, [], replicate, None}
 use Rattle.spec_base.specs.declared.machine.View.TheVariants.{Program}
-use Rattle.spec_base.specs.declared.note.Move.TheVariants.{O}
+use Rattle.spec_base.specs.declared.note.Move.TheVariants.{O, S}
+use Rattle.spec_base.specs.declared.note.ShadowState.TheVariants.{Running}
 use Rattle.run_model.specs.Run.{World, Run, Usual}
 use Rattle.run_model.specs.OwnMoves.{stays_behind}
+use Rattle.run_model.specs.ShadowMoves.{fetch_shadow, is_call_word}
 use Rattle.run_model.specs.Moves.{Moves, step, run_from}
 use Rattle.runner.specs.Shows.{Shows}
 use Rattle.runner.specs.declared.runner.Runner.{Runner}
@@ -43,3 +45,30 @@ words_done (suc n) r =
       notes = [];
       text = [];
     }
+
+-- ---- words of the shadow
+
+-- the next move of the shadow, in a run that goes on, is a word that is no call
+pub record IsShadowWord (w : World) (r : Run) : Type 0 where
+  pub on : r.end ≡ None
+  pub runs : r.shadow.state ≡ Running
+  pub no_call : is_call_word (fetch_shadow w r.shadow.pc) ≡ false
+
+-- so many moves of the shadow
+abbrev pub shadow_moves : ℕ → Moves
+shadow_moves n = replicate n (S, Usual)
+
+-- each of so many moves of the shadow is a word that is no call
+abbrev pub AreShadowWords : World → ℕ → Run → Type 0
+AreShadowWords w zero r = Unit {0}
+AreShadowWords w (suc n) r = IsShadowWord w r × AreShadowWords w n (step w r (S, Usual))
+
+-- a runner made them
+pub record MakesShadowWords (n : ℕ) (u : Runner) (w : World) (r : Run) : Type 0 where
+  pub words : AreShadowWords w n r
+  pub shows : Shows u w (run_from w r (shadow_moves n))
+
+-- a runner made one
+pub record MakesShadowWord (u : Runner) (w : World) (r : Run) : Type 0 where
+  pub word : IsShadowWord w r
+  pub shows : Shows u w (step w r (S, Usual))

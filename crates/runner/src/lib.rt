@@ -4,6 +4,7 @@
 
 mod answering;
 mod bulk;
+mod bulk_shadow;
 mod calling;
 mod demanding;
 mod fetching;

@@ -3,7 +3,7 @@
 ghost use Rattle.std.specs.Prelude.{◌≡◌, ◌+◌, ◌<◌, ◌≤◌, ◌^◌, ◌||◌, None, [], not, length};
 ghost use Rattle.run_model.specs.Run.{World, Run};
 ghost use Rattle.run_model.specs.Moves.{Moves, begun, silent, is_idle, run_from};
-ghost use Rattle.runner_parts.specs.Counts.{AreBelow};
+ghost use Rattle.runner_parts.specs.Counts.{AreBelow, one_move};
 ghost use Rattle.runner_parts.specs.Idle.{AreIdle};
 ghost use Rattle.runner.specs.Shows.{Shows};
 
@@ -39,6 +39,7 @@ impl Runner {
     pub(crate) fn begin(&mut self)
         requires { self.old.counts.moves < 2 ^ 63 }
         ensures shows { (w : World) (r : Run) → Shows self.old w r → Shows self.new w (begun r) }
+        ensures counts { self.new.counts ≡ one_move self.old.counts }
         ensures below { AreBelow self.new.counts }
         ensures quiet { self.new.text ≡ 0 }
         ensures silent { self.new.notes ≡ [] }

@@ -8,7 +8,7 @@ ghost use Rattle.run_model.specs.ShadowMoves.{arrived, parked, word_counted, sha
 ghost use Rattle.run_laws.specs.OwnLaws.{Accepted};
 ghost use Rattle.rv_model.specs.Effect.{after};
 ghost use Rattle.rv_model.specs.Registers.{with_reg};
-ghost use Rattle.runner.specs.ShadowGoes.{StepsTo, WordTold};
+ghost use Rattle.runner.specs.ShadowGoes.{AreCounted, StepsTo, WordTold};
 ghost use Rattle.runner.specs.Shows.{Shows};
 
 use crate::runner::Runner;
@@ -30,9 +30,11 @@ impl Runner {
     }
 
     // A word of the shadow is made, and it may have arrived at a block.
-    fn arrive(&mut self)
+    pub(crate) fn arrive(&mut self)
         requires since { self.old.counts.shadow_since < self.old.counts.moves }
         ensures shows { (w : World) (r : Run) → Shows self.old w r → Shows self.new w (arrived w.image.layout r) }
+        ensures kept { (self.new.mem ≡ self.old.mem) × (self.new.state ≡ self.old.state) }
+        ensures regions { self.new.counts.regions_most ≡ self.old.counts.regions_most }
         ensures moves { self.new.counts.moves ≡ self.old.counts.moves }
         ensures end { self.new.end ≡ self.old.end }
     {
@@ -42,8 +44,10 @@ impl Runner {
     }
 
     // A word is counted.
-    fn count_word(&mut self)
+    pub(crate) fn count_word(&mut self)
         ensures shows { (w : World) (r : Run) → Shows self.old w r → Shows self.new w (word_counted r) }
+        ensures counted { AreCounted self.new }
+        ensures state { self.new.state ≡ self.old.state }
         ensures moves { self.new.counts.moves ≡ self.old.counts.moves }
         ensures end { self.new.end ≡ self.old.end }
     {
@@ -62,8 +66,9 @@ impl Runner {
     }
 
     // A word of the shadow ends by parking it.
-    fn park_word(&mut self, cause: Park)
+    pub(crate) fn park_word(&mut self, cause: Park)
         ensures shows { (w : World) (r : Run) → Shows self.old w r → Shows self.new w (word_counted (parked r cause)) }
+        ensures counted { AreCounted self.new }
         ensures moves { self.new.counts.moves ≡ self.old.counts.moves }
         ensures end { self.new.end ≡ self.old.end }
     {

@@ -5,7 +5,7 @@ use file_calls::Files;
 use hart_mem::Mem;
 use hart_step::Hart;
 use runner_parts::{End, Turn};
-use spec_base::{Layout, Move, Trap, Version, View};
+use spec_base::{Layout, Move, Note, Park, SHADOW_START, ShadowState, Trap, Version, View};
 use std::alloc::Global;
 use std::test::Fail;
 use world_io::{MemSink, MemStore};
@@ -92,6 +92,31 @@ fn words_of_the_program_are_made_at_once(rt: HostRuntime) -> Result<(), Fail> {
     assert!(rt; words(&mut runner) == Some(1));
     assert!(rt; words(&mut runner) == Some(0));
     assert!(rt; runner.own_done() == 1);
+    assert!(rt; runner.moves() == 1);
+    Ok(())
+}
+
+// At most five words of the shadow at once, of a runner that has made few moves.
+fn shadow_words(runner: &mut Runner) -> Option<u64> {
+    if runner.moves() < 100 {
+        Some(runner.go_shadow(5))
+    } else {
+        None
+    }
+}
+
+// Words of the shadow are made at once, while it runs, up to one that parks it. Its code is missing here.
+#[test]
+fn words_of_the_shadow_are_made_at_once(rt: HostRuntime) -> Result<(), Fail> {
+    let alloc = rt.alloc();
+    let mut runner = runner_of(alloc)?;
+    assert!(rt; shadow_words(&mut runner) == Some(0));
+    runner.shadow.set_pc(SHADOW_START + 4);
+    runner.state = ShadowState::Running;
+    assert!(rt; shadow_words(&mut runner) == Some(1));
+    assert!(rt; runner.shadow() == ShadowState::Parked(Park::Fault));
+    assert!(rt; runner.notes() == [Note::Park(Park::Fault)].as_slice());
+    assert!(rt; shadow_words(&mut runner) == Some(0));
     assert!(rt; runner.moves() == 1);
     Ok(())
 }
