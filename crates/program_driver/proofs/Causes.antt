@@ -117,6 +117,13 @@ counts-lines lines (Err fault.NoMemory) a b h =
     let same : b.faults ≡ h.between.faults = ap (λ (s : SinkState). s.faults) h.stops in
     record { later = omega (arith, first, same); rose = λ e. absurd cc }
 
+-- lines behind others that were put, and lines that weren't
+pub both-counts : (answer : Result (Unit {0}) LineFault) (one : Result (Unit {0}) LineFault) (a b c : SinkState) → CountsLines one a b → CountsLines answer b c → CountsLines answer a c
+both-counts answer one a b c first then = record { later = omega (arith, first.later, then.later); rose = λ e. earlier-Rose a.faults b.faults c.faults first.later (then.rose e) }
+
+pub no-lines-counted : (a : SinkState) → CountsLines (Ok tt) a a
+no-lines-counted a = record { later = omega arith; rose = λ e. absurd cc }
+
 -- ---- the report
 
 -- behind it standard error is later

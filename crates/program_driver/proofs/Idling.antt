@@ -1,5 +1,7 @@
 -- Moves that do nothing but count, in a run over the outside.
-use Rattle.std.proofs.Common.{◌≡◌, ℕ, zero, suc, Bool, true, false, not, ◌&&◌, ◌||◌, List, [], ◌∷◌, ◌++◌, length, map, Option, Some, None, refl, ap, sym, ◌∙◌, subst}
+use Rattle.std.proofs.Common.{◌≡◌, ℕ, zero, suc, Bool, true, false, not, ◌&&◌, ◌||◌, List, [], ◌∷◌, ◌++◌, length, Option, Some, None, nat_lt, refl, ap, ap₂, sym, ◌∙◌, subst, arith}
+use Rattle.std.proofs.lemmas.Bool.Decides.{nat_tests}
+use Rattle.spec_base.specs.Listed.{is_listed}
 use Rattle.std.specs.Prelude.{is_none, replicate}
 use Rattle.std.proofs.lemmas.List.{append_assoc, append-nil, map-append}
 use Rattle.spec_base.specs.declared.note.Move.{Move}
@@ -10,7 +12,11 @@ use Rattle.run_model.specs.Run.{World, Run, Usual, opened_run}
 use Rattle.run_model.specs.ShadowMoves.{is_running}
 use Rattle.run_model.specs.Moves.{Moves, step, run, run_from, is_idle, begun}
 use Rattle.run_model.specs.Patterns.{Pattern}
-use Rattle.run_model.specs.Trace.{told_by, trace}
+use Rattle.use_marks.specs.Along.{AreMarksOf, numbers_of, numbers_then, numbers_by, is_first_use}
+use Rattle.use_marks.specs.Told.{IsTold}
+use Rattle.use_marks.specs.Marked.{marks_of}
+use Rattle.use_marks.proofs.Told.{told_kept}
+use Rattle.use_marks.proofs.Along.{numbers-snoc}
 use Rattle.world_io.specs.Outside.{SinkState, StoreState}
 use Rattle.world_io.specs.Logs.{StoreLog, AreOffered}
 use Rattle.world_io.proofs.Stores.{none-StoreLog}
@@ -27,9 +33,11 @@ use Rattle.runner.specs.Shows.{Shows}
 use Rattle.runner.specs.declared.runner.Runner.{Runner}
 use Rattle.program_driver.specs.Progress.{HasMade, Progress, TraceProgress}
 use Rattle.program_driver.specs.Lines.{ArePut}
-use Rattle.program_driver.specs.Traces.{told_line, over_bottomless}
+use Rattle.program_driver.specs.declared.uses.UseTrace.{UseTrace}
+use Rattle.program_driver.specs.Uses.{KeepsUses, use_line_if}
+use Rattle.program_driver.specs.Traces.{trace_lines, move_lines, over_bottomless}
 use Rattle.program_driver.proofs.Driven.{firsts, goes-snoc}
-use Rattle.program_driver.proofs.Traced.{trace-snoc}
+use Rattle.program_driver.proofs.Traced.{lines-snoc}
 
 -- ---- an idle move asks nothing
 
@@ -79,6 +87,36 @@ idle-again S r = refl
 idle-again T r = refl
 idle-again D r = refl
 
+-- ---- an idle move tells no use, and nothing becomes of what is kept
+
+no-less : (n : ℕ) → nat_lt n n ≡ false
+no-less n = grind (arith, nat_tests)
+
+begun-lines : (uses : Bool) (w : World) (numbers : List ℕ) (r : Run) → move_lines uses w numbers r (begun r) ≡ []
+begun-lines false w numbers r = refl
+begun-lines true w numbers r =
+    ap (λ b. use_line_if (b && (nat_lt 0 r.restarts && (r.since.whole && is_first_use numbers w r r.since.own))) (begun r) ++ []) (no-less r.own_done)
+
+begun-numbers : (numbers : List ℕ) (r : Run) → numbers_then numbers r (begun r) ≡ numbers
+begun-numbers numbers r = ap₂ (λ s c. numbers_by s c numbers r) (no-less r.restarts) (no-less r.own_done)
+
+rest-kept : (w : World) (ms : Moves) (m : Move) (u : UseTrace) → run w (ms ++ (m, Usual) ∷ []) ≡ begun (run w ms) → KeepsUses w ms u → KeepsUses w (ms ++ (m, Usual) ∷ []) u
+rest-kept w ms m u next k =
+    let r : Run = run w ms in
+    let all : Moves = ms ++ (m, Usual) ∷ [] in
+    let then : step w r (m, Usual) ≡ begun r = sym (moves_add_up w ms (m, Usual)).next ∙ next in
+    let numbers : numbers_of w all ≡ numbers_of w ms = numbers-snoc w ms (m, Usual) ∙ ap (λ q. numbers_then (numbers_of w ms) r q) then ∙ begun-numbers (numbers_of w ms) r in
+    let here : AreMarksOf w (begun r) (numbers_of w ms) (marks_of u.marks) u.unused = record { told = λ some whole. kept-told r (numbers_of w ms) (k.marks.told some whole) } in
+    record {
+      marks =
+          subst (λ l. AreMarksOf w (run w all) l (marks_of u.marks) u.unused) (sym numbers)
+          (subst (λ q. AreMarksOf w q (numbers_of w ms) (marks_of u.marks) u.unused) (sym next) here);
+      filled = λ n. (k.filled n ∙ ap (λ (q : Run). is_listed q.since.filled (suc n)) (sym next));
+    }
+  where
+    kept-told : (r : Run) (numbers : List ℕ) → IsTold w r r.since.own numbers (marks_of u.marks) u.unused → IsTold w (begun r) r.since.own numbers (marks_of u.marks) u.unused
+    kept-told r numbers t = told_kept w r (begun r) r.since.own numbers (marks_of u.marks) u.unused refl t
+
 -- ---- idle moves of a run
 
 -- some moves were made behind others, and told nothing
@@ -86,7 +124,8 @@ pub record Rested (w : World) (sooner ms : Moves) (before here : Outside) : Type
   pub made : GoesOn w (opened_run w) ms
   pub goes : (run w ms).end ≡ None
   pub heard : AreHeard w ms before here
-  pub told : trace w ms ≡ trace w sooner
+  pub told : (uses : Bool) → trace_lines uses w ms ≡ trace_lines uses w sooner
+  pub kept : (u : UseTrace) → KeepsUses w sooner u → KeepsUses w ms u
 
 rest-one : (w : World) (sooner ms : Moves) (m : Move) (before here : Outside) → Rested w sooner ms before here → is_idle m (run w ms) ≡ true
     → Rested w sooner (ms ++ (m, Usual) ∷ []) before here × (is_idle m (run w (ms ++ (m, Usual) ∷ [])) ≡ true)
@@ -97,7 +136,10 @@ rest-one w sooner ms m before here was idle =
         made = goes-snoc w (opened_run w) ms (m, Usual) was.made was.goes;
         goes = ap (λ q. q.end) next ∙ was.goes;
         heard = next_is_heard w ms m Usual before here here was.heard (idle-hears w r m here was.goes idle);
-        told = trace-snoc w (m, Usual) (opened_run w) ms ∙ ap (λ q. trace w ms ++ told_by q q.notes) next ∙ append-nil (trace w ms) ∙ was.told;
+        told = λ uses. (
+            lines-snoc uses w ms (m, Usual) ∙ ap (λ q. trace_lines uses w ms ++ move_lines uses w (numbers_of w ms) r q) next
+            ∙ ap (λ l. trace_lines uses w ms ++ l) (begun-lines uses w (numbers_of w ms) r) ∙ append-nil (trace_lines uses w ms) ∙ was.told uses);
+        kept = λ u k. rest-kept w ms m u next (was.kept u k);
       },
       ap (is_idle m) next ∙ idle-again m r ∙ idle,
     )
@@ -140,7 +182,7 @@ module _ (pattern : Pattern) (turns : ℕ) (old now new : Runner) (m : Move) (k 
   rest-all : (before here : Outside) (log : Progress pattern turns (replicate k m ++ left) old now before here) (w : World) → HasMade w log.ms now before here
       → Rested w log.ms (log.ms ++ idles k m) before here
   rest-all before here log w has =
-      rest-many k w log.ms log.ms m before here (record { made = has.made; goes = has.goes; heard = has.heard; told = refl }) (sym (rests w (run w log.ms) has.shows))
+      rest-many k w log.ms log.ms m before here (record { made = has.made; goes = has.goes; heard = has.heard; told = λ uses. refl; kept = λ u k. k }) (sym (rests w (run w log.ms) has.shows))
 
   pub rest-Progress : (before here : Outside) → Progress pattern turns (replicate k m ++ left) old now before here → Progress pattern turns left old new before here
   rest-Progress before here log =
@@ -165,13 +207,16 @@ module _ (pattern : Pattern) (turns : ℕ) (old now new : Runner) (m : Move) (k 
             });
       }
 
-  pub rest-TraceProgress : (store here : StoreState) (out out_here : SinkState) → TraceProgress pattern turns (replicate k m ++ left) old now store out here out_here
-      → TraceProgress pattern turns left old new store out here out_here
+  -- with what is kept to tell uses
+  pub rest-TraceProgress : (uses : Bool) (kept : UseTrace) (store here : StoreState) (out out_here : SinkState) → TraceProgress uses pattern turns (replicate k m ++ left) kept old now store out here out_here
+      → TraceProgress uses pattern turns left kept old new store out here out_here
   unfolding rest-Progress
-  rest-TraceProgress store here out out_here log =
+  rest-TraceProgress uses kept store here out out_here log =
       record {
         drives = rest-Progress (over_bottomless store) (over_bottomless here) log.drives;
         puts = λ w acc shows holds. (
             let all = rest-all (over_bottomless store) (over_bottomless here) log.drives w (log.drives.went w acc shows holds) in
-            subst (λ notes. ArePut out (map told_line notes) out_here) (sym all.told) (log.puts w acc shows holds));
+            subst (λ lines. ArePut out lines out_here) (sym (all.told uses)) (log.puts w acc shows holds));
+        asked = log.asked;
+        keeps = λ w acc shows holds on. (rest-all (over_bottomless store) (over_bottomless here) log.drives w (log.drives.went w acc shows holds)).kept kept (log.keeps w acc shows holds on);
       }

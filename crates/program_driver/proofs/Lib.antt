@@ -11,3 +11,7 @@ mod Passing
 mod AtOnce
 mod Stretching
 mod Silent
+mod Looking
+mod CallReads
+mod Using
+pub mod FirstUses

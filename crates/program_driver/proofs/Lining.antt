@@ -1,5 +1,6 @@
 -- The puts of lines.
 use Rattle.std.proofs.Common.{◌≡◌, ℕ, suc, ◌+◌, ◌-◌, ◌<◌, Bool, true, false, List, [], ◌∷◌, ◌++◌, length, take, drop, get_or, drop-cons, refl, ap, ap₂, sym, ◌∙◌, subst, arith}
+use Rattle.std.specs.Prelude.{◌≢◌, Result, Ok, Err}
 use Rattle.std.proofs.lemmas.List.{append_assoc, append-nil, take_rest}
 use Rattle.world_io.specs.Outside.{SinkState}
 use Rattle.world_io.specs.Puts.{PutSays, Fits}
@@ -9,7 +10,7 @@ use Rattle.world_io.specs.declared.sink.Put.TheVariants as put
 use Rattle.move_requests.proofs.Heard.{append-AreOffered}
 use Rattle.spec_base.specs.declared.note.Note.{Note}
 use Rattle.trace_text.specs.Line.{line_of}
-use Rattle.program_driver.specs.Lines.{Line, AreOfLine, PutsLine, ArePut, StopsAt, PutsSome, note_lines}
+use Rattle.program_driver.specs.Lines.{Line, AreOfLine, PutsLine, ArePut, StopsAt, PutsSome, LinesTo, note_lines}
 use Rattle.program_driver.specs.declared.lines.LineFault.{LineFault}
 
 -- ---- one line
@@ -87,6 +88,16 @@ sooner-PutsSome fault a b xs ys one =
       stops = one.stops;
     }
 
+-- some lines behind others that were put
+pub both-lines : (xs ys : List Line) (one two : Result (Unit {0}) LineFault) (a b c : SinkState) → ((fault : LineFault) → one ≢ Err fault) → LinesTo xs one a b → LinesTo ys two b c → LinesTo (xs ++ ys) two a c
+both-lines xs ys (Err fault) two a b c good first then = absurd (good fault refl)
+both-lines xs ys (Ok done) (Ok all) a b c good first then = append-ArePut a b c xs ys first then
+both-lines xs ys (Ok done) (Err fault) a b c good first then = later-PutsSome fault a b c xs ys first then
+
+-- and some that weren't
+pub first-lines : (xs ys : List Line) (fault : LineFault) (one : Result (Unit {0}) LineFault) (a b : SinkState) → one ≡ Err fault → LinesTo xs one a b → LinesTo (xs ++ ys) (Err fault) a b
+first-lines xs ys fault one a b is first = sooner-PutsSome fault a b xs ys (subst (λ answer. LinesTo xs answer a b) is first)
+
 -- one line
 pub put-one : (a b : SinkState) (line : Line) → PutsLine a line true b → ArePut a (line ∷ []) b
 put-one a b line puts = (b, puts, refl)
@@ -126,7 +137,7 @@ all-LinesLog old now lines rest log none =
 -- ---- the lines of notes
 
 -- the note at a place, and those behind it
-note-at : (notes : List Note) (i : ℕ) (note : Note) → i < length notes → note ≡ get_or notes i note → drop i notes ≡ note ∷ drop (i + 1) notes
+pub note-at : (notes : List Note) (i : ℕ) (note : Note) → i < length notes → note ≡ get_or notes i note → drop i notes ≡ note ∷ drop (i + 1) notes
 note-at notes i note in_list is =
     let next : suc i ≡ i + 1 = omega arith in
     drop-cons notes i note in_list ∙ ap₂ (λ n k. n ∷ drop k notes) (sym is) next

@@ -1,5 +1,5 @@
 -- How far a runner has come with the moves of a pattern (this project's own).
-use Rattle.std.specs.Prelude.{◌≡◌, ℕ, ◌-◌, List, ◌++◌, map, replicate, Option, Some, None}
+use Rattle.std.specs.Prelude.{◌≡◌, ℕ, ◌-◌, Bool, List, ◌++◌, map, replicate, Option, Some, None}
 use Rattle.spec_base.specs.Files.{Files}
 use Rattle.spec_base.specs.declared.note.Move.{Move}
 use Rattle.run_model.specs.Run.{World, opened_run}
@@ -16,6 +16,8 @@ use Rattle.runner.specs.Shows.{Shows}
 use Rattle.runner.specs.declared.runner.Runner.{Runner}
 use Rattle.program_driver.specs.Lines.{ArePut}
 use Rattle.program_driver.specs.Runs.{Drives}
+use Rattle.program_driver.specs.declared.uses.UseTrace.{UseTrace}
+use Rattle.program_driver.specs.Uses.{HasUses}
 use Rattle.program_driver.specs.Traces.{TracesTo, trace_lines, over_bottomless, with_err}
 
 -- ---- a run
@@ -57,17 +59,19 @@ MakesSome m most made now new = (here : Outside) (left : List Move) → MakesFro
 
 -- ---- a trace
 
--- the same of a trace, whose lines were put
-pub record TraceProgress (pattern : Pattern) (turns : ℕ) (left : List Move) (old now : Runner) (store : StoreState) (out : SinkState) (store_now : StoreState) (out_now : SinkState) : Type 0 where
+-- the same of a trace, whose lines were put, with uses or without. What is kept to tell them is kept so far
+pub record TraceProgress (uses : Bool) (pattern : Pattern) (turns : ℕ) (left : List Move) (kept : UseTrace) (old now : Runner) (store : StoreState) (out : SinkState) (store_now : StoreState) (out_now : SinkState) : Type 0 where
   pub drives : Progress pattern turns left old now (over_bottomless store) (over_bottomless store_now)
-  pub puts : (w : World) → Accepted w → Shows old w (opened_run w) → AreTrueOf w.files drives.said → ArePut out (trace_lines w drives.ms) out_now
+  pub puts : (w : World) → Accepted w → Shows old w (opened_run w) → AreTrueOf w.files drives.said → ArePut out (trace_lines uses w drives.ms) out_now
+  pub asked : kept.on ≡ uses
+  pub keeps : (w : World) → Accepted w → Shows old w (opened_run w) → AreTrueOf w.files drives.said → HasUses w drives.ms kept
 
-abbrev pub TraceProgressTo : Pattern → ℕ → List Move → Runner → Option Ending → Runner → StoreState → SinkState → StoreState → SinkState → Type 0
-TraceProgressTo pattern turns left old None new store out store_after out_after = TraceProgress pattern turns left old new store out store_after out_after
-TraceProgressTo pattern turns left old (Some ending) new store out store_after out_after =
-    (err : SinkState) → Drives (TracesTo pattern turns ending) old new (with_err err store out) (with_err err store_after out_after)
+abbrev pub TraceProgressTo : Bool → Pattern → ℕ → List Move → Option Ending → UseTrace → Runner → Runner → StoreState → SinkState → StoreState → SinkState → Type 0
+TraceProgressTo uses pattern turns left None kept old new store out store_after out_after = TraceProgress uses pattern turns left kept old new store out store_after out_after
+TraceProgressTo uses pattern turns left (Some ending) kept old new store out store_after out_after =
+    (err : SinkState) → Drives (TracesTo uses pattern turns ending) old new (with_err err store out) (with_err err store_after out_after)
 
-abbrev pub TracesStretch : Move → ℕ → Option Ending → Runner → Runner → StoreState → SinkState → StoreState → SinkState → Type 0
-TracesStretch m count ending now new here out_here after out_after =
-    (pattern : Pattern) (turns : ℕ) (left : List Move) (old : Runner) (store : StoreState) (out : SinkState)
-    → TraceProgress pattern turns (replicate count m ++ left) old now store out here out_here → TraceProgressTo pattern turns left old ending new store out after out_after
+abbrev pub TracesStretch : Move → ℕ → Option Ending → UseTrace → UseTrace → Runner → Runner → StoreState → SinkState → StoreState → SinkState → Type 0
+TracesStretch m count ending kept later now new here out_here after out_after =
+    (uses : Bool) (pattern : Pattern) (turns : ℕ) (left : List Move) (old : Runner) (store : StoreState) (out : SinkState)
+    → TraceProgress uses pattern turns (replicate count m ++ left) kept old now store out here out_here → TraceProgressTo uses pattern turns left ending later old new store out after out_after

@@ -10,6 +10,7 @@ mod schedule;
 #[cfg(test)]
 mod tests;
 mod tracing;
+mod uses;
 
 pub use driving::drive;
 pub use lines::LineFault;

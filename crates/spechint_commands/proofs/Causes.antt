@@ -20,10 +20,10 @@ use Rattle.spechint_commands.specs.Lines.{replay_line, plan_line}
 use Rattle.runner.specs.Causes.{SinkRose}
 use Rattle.program_driver.specs.Causes.{HasCause}
 use Rattle.spechint_commands.specs.Common.{image_name}
-use Rattle.spechint_commands.specs.Run.{Going, Ran, ImageTo, RunGoes, TraceGoes, TraceBy}
+use Rattle.spechint_commands.specs.Run.{Going, Ran, ImageTo, RunGoes, TraceGoes}
 use Rattle.spechint_commands.specs.Top.{IsOutcome, CommandTo, Accepted, Tells, TellsAlone, asked_program}
 use Rattle.spechint_commands.specs.declared.status.Status.{Status}
-use Rattle.spechint_commands.specs.declared.status.Status.TheVariants.{Usage, NotBuilt, Absent, StoreFault, SinkFault, NoMemory}
+use Rattle.spechint_commands.specs.declared.status.Status.TheVariants.{Usage, Absent, StoreFault, SinkFault, NoMemory}
 
 -- ---- outcomes, by the request that the words make
 
@@ -69,16 +69,12 @@ pub image_store_fault : (go : Going) (r : Request) (old new : Outside) → Image
 image_store_fault go r old new (inl stopped) = failed_read old.store new.store (image_name r) stopped.0
 image_store_fault go r old new (inr a) = ran-Rose go r old new a
 
-trace_store_fault : (uses : Bool) (r : Request) (old new : Outside) → TraceBy uses r StoreFault old new → Rose old.store.faults new.store.faults
-trace_store_fault true r old new h = absurd (let e : StoreFault ≡ NotBuilt = h.0 in cc)
-trace_store_fault false r old new h = image_store_fault (TraceGoes r) r old new h
-
 store_fault_in : (c : Command) (r : Request) (old new : Outside) → CommandTo c r StoreFault old new → Rose old.store.faults new.store.faults
 store_fault_in Plain r old new (inl stopped) = failed_read old.store new.store (image_name r) stopped.0
 store_fault_in Plain r old new (inr a) = failed_run r old new a
 store_fault_in Rewrite r old new stopped = failed_read old.store new.store (image_name r) stopped.0
 store_fault_in Run r old new h = image_store_fault (RunGoes r) r old new h
-store_fault_in Trace r old new h = trace_store_fault r.options.uses r old new h
+store_fault_in Trace r old new h = image_store_fault (TraceGoes r) r old new h
 store_fault_in Demo r old new h = absurd h
 store_fault_in Replay r old new stopped = failed_read old.store new.store (image_name r) stopped.0
 store_fault_in Plan r old new stopped = failed_read old.store new.store (image_name r) stopped.0
@@ -121,15 +117,11 @@ put_failed r old new a =
 pub ran-SinkRose : (go : Going) (r : Request) (old new : Outside) → Ran go r SinkFault old new → SinkRose old new
 ran-SinkRose go r old new a = subst (λ e. HasCause e (record old { store = a.between }) new) a.gives a.cause
 
-trace_sink_fault : (uses : Bool) (r : Request) (old new : Outside) → TraceBy uses r SinkFault old new → SinkRose old new
-trace_sink_fault true r old new h = absurd (let e : SinkFault ≡ NotBuilt = h.0 in cc)
-trace_sink_fault false r old new a = ran-SinkRose (TraceGoes r) r old new a
-
 sink_fault_in : (c : Command) (r : Request) (old new : Outside) → CommandTo c r SinkFault old new → SinkRose old new
 sink_fault_in Plain r old new a = put_failed r old new a
 sink_fault_in Rewrite r old new h = inl (rose-PutsText old.out new.out _ h.2.2.puts)
 sink_fault_in Run r old new a = ran-SinkRose (RunGoes r) r old new a
-sink_fault_in Trace r old new h = trace_sink_fault r.options.uses r old new h
+sink_fault_in Trace r old new h = ran-SinkRose (TraceGoes r) r old new h
 sink_fault_in Demo r old new h = inl (rose-PutsText old.out new.out h.0 h.2.0)
 sink_fault_in Replay r old new h = inl (rose-PutsText old.out new.out (replay_line h.1) h.4.0)
 sink_fault_in Plan r old new h = inl (rose-PutsText old.out new.out (plan_line h.2 r.options.blocks) h.6.0)
@@ -156,15 +148,11 @@ sink_fault-Rose words status old new h e = sink_fault_by (command_of words) old 
 abbrev pub Lacks : Request → StoreState → Type 0
 Lacks r store = IfSome store.files (λ files. files (image_name r) ≡ None)
 
-trace_absent : (uses : Bool) (r : Request) (old new : Outside) → TraceBy uses r Absent old new → Lacks r old.store
-trace_absent true r old new h = absurd (let e : Absent ≡ NotBuilt = h.0 in cc)
-trace_absent false r old new h = h.0.told
-
 absent_in : (c : Command) (r : Request) (old new : Outside) → CommandTo c r Absent old new → Lacks r old.store
 absent_in Plain r old new h = h.0.told
 absent_in Rewrite r old new h = h.0.told
 absent_in Run r old new h = h.0.told
-absent_in Trace r old new h = trace_absent r.options.uses r old new h
+absent_in Trace r old new h = h.0.told
 absent_in Demo r old new h = absurd h
 absent_in Replay r old new h = h.0.told
 absent_in Plan r old new h = h.0.told
@@ -181,15 +169,11 @@ absent-told words status old new h e = absent_by (command_of words) old new (out
 
 -- ---- usage
 
-trace_usage : (uses : Bool) (r : Request) (old new : Outside) → TraceBy uses r Usage old new → ⊥
-trace_usage true r old new h = let e : Usage ≡ NotBuilt = h.0 in cc
-trace_usage false r old new h = h
-
 not_usage : (c : Command) (r : Request) (old new : Outside) → CommandTo c r Usage old new → ⊥
 not_usage Plain r old new h = h
 not_usage Rewrite r old new h = h
 not_usage Run r old new h = h
-not_usage Trace r old new h = trace_usage r.options.uses r old new h
+not_usage Trace r old new h = h
 not_usage Demo r old new h = absurd h
 not_usage Replay r old new h = h
 not_usage Plan r old new h = h

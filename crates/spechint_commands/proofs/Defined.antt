@@ -30,7 +30,7 @@ use Rattle.file_world.specs.Worlds.{AreFiles}
 use Rattle.file_runs.specs.Runs.{run_world, plain_program, RunsAreAsPlain}
 use Rattle.program_driver.specs.Lines.{ArePut, LinesTo, ending_with, fault_ending}
 use Rattle.program_driver.specs.Runs.{report_lines, is_reported}
-use Rattle.program_driver.specs.Traces.{TellsTo, all, in_move, at_turns, all_lines, over_bottomless}
+use Rattle.program_driver.specs.Traces.{TellsTo, all, in_move, before_move, at_turns, all_lines, over_bottomless}
 use Rattle.program_driver.specs.declared.lines.LineFault.{LineFault}
 use Rattle.program_driver.specs.declared.lines.LineFault.TheVariants.{Sink}
 use Rattle.program_driver.specs.declared.lines.LineFault.TheVariants as line
@@ -46,13 +46,13 @@ use Rattle.fetch_plan.specs.Traces.{needs_by, HasLeast}
 use Rattle.fetch_plan.specs.declared.traces.PlanTotals.{PlanTotals}
 use Rattle.spechint_commands.specs.Texts.{text_of}
 use Rattle.spechint_commands.specs.Lines.{replay_line, plan_line}
-use Rattle.spechint_commands.specs.Run.{asked_file, Going, Ran, ImageTo, RunGoes, TraceGoes, RunTo, TraceBy}
+use Rattle.spechint_commands.specs.Run.{asked_file, Going, Ran, ImageTo, RunGoes, TraceGoes, RunTo, TraceTo}
 use Rattle.spechint_commands.specs.Common.{Silent, Stopped, EndingStatus, ReadsFile, image_name, PutsLine}
 use Rattle.spechint_commands.specs.Demo.{DemoTo}
 use Rattle.spechint_commands.specs.Top.{Runs, Accepted, PlainTo, Rewrites, RewriteTo, settings_of, ReplayTo, PlanTo, CommandTo, IsOutcome}
-use Rattle.spechint_commands.specs.Defined.{EndsAs, IsPlainRun, IsEnd, IsDefinedRun, IsDefinedTrace, ByOpened, ByUses, ByBytes, ByProfile, BySize, ByFile, ByReplayed, ByNeeds, ByPlanned, ByTrace, ByTraceSize, ByTraceFile, ByCommand, ByRequest, IsDefined, IsSteady}
+use Rattle.spechint_commands.specs.Defined.{EndsAs, IsPlainRun, IsEnd, IsDefinedRun, IsDefinedTrace, ByOpened, ByBytes, ByProfile, BySize, ByFile, ByReplayed, ByNeeds, ByPlanned, ByTrace, ByTraceSize, ByTraceFile, ByCommand, ByRequest, IsDefined, IsSteady}
 use Rattle.spechint_commands.specs.declared.status.Status.{Status}
-use Rattle.spechint_commands.specs.declared.status.Status.TheVariants.{Done, Exited, Trapped, TurnsOver, Usage, NotBuilt, Absent, Refused, BadLine, TooMany, StoreFault, SinkFault, NoMemory}
+use Rattle.spechint_commands.specs.declared.status.Status.TheVariants.{Done, Exited, Trapped, TurnsOver, Usage, Absent, Refused, BadLine, TooMany, StoreFault, SinkFault, NoMemory}
 use Rattle.runner.specs.Causes.{SinkRose}
 use Rattle.spechint_commands.proofs.AsPlain.{as_plain-store}
 use Rattle.spechint_commands.proofs.Causes.{ByMemory, failed_read, failed_run, put_failed, image_store_fault, ran-SinkRose}
@@ -83,7 +83,6 @@ run-IsPlainRun p files turns status old new e end h =
     no_faults (TurnsOver count) is gives = subst (λ e. FailedPuts p h.runs.state e h.runs.out_fault h.runs.err_fault) gives h.runs.failed
     no_faults Done is gives = absurd is
     no_faults Usage is gives = absurd is
-    no_faults NotBuilt is gives = absurd is
     no_faults (BadLine number) is gives = absurd is
     no_faults TooMany is gives = absurd is
     no_faults Absent is gives = absurd is
@@ -98,7 +97,6 @@ run-IsPlainRun p files turns status old new e end h =
     ends_as (TurnsOver count) is gives t = subst (λ d. EndsBy p turns h.runs.n h.runs.state d) gives h.runs.ends
     ends_as Done is gives t = absurd is
     ends_as Usage is gives t = absurd is
-    ends_as NotBuilt is gives t = absurd is
     ends_as (BadLine number) is gives t = absurd is
     ends_as TooMany is gives t = absurd is
     ends_as Absent is gives t = absurd is
@@ -183,7 +181,6 @@ by_status r files SinkFault old new e a s o w = absurd (no_sink_fault old new (p
 by_status r files NoMemory old new e h s o w = inl refl
 by_status r files Done old new e h s o w = absurd h
 by_status r files Usage old new e h s o w = absurd h
-by_status r files NotBuilt old new e h s o w = absurd h
 by_status r files (BadLine number) old new e h s o w = absurd h
 by_status r files TooMany old new e h s o w = absurd h
 
@@ -210,7 +207,6 @@ by_rewrite r files (Exited c) old new e h s o = absurd h
 by_rewrite r files (Trapped t pc) old new e h s o = absurd h
 by_rewrite r files (TurnsOver count) old new e h s o = absurd h
 by_rewrite r files Usage old new e h s o = absurd h
-by_rewrite r files NotBuilt old new e h s o = absurd h
 by_rewrite r files (BadLine number) old new e h s o = absurd h
 by_rewrite r files TooMany old new e h s o = absurd h
 
@@ -259,18 +255,19 @@ defined_run law r files status old new e end a are =
     }
 
 -- all lines of a trace were put
-whole_trace : (w : World) (ms : Moves) (reached end : Ending) (old new : SinkState) (status : Status) → IsEnd status → EndingStatus end status → TellsTo w ms reached end old new
-    → (end ≡ reached) × ArePut old (all_lines w ms reached) new
-whole_trace w ms reached end old new status is gives (all same puts) = (same, puts)
-whole_trace w ms reached end old new status is gives (in_move fault front m between same made puts some) = absurd (never_fault fault end status is gives same)
-whole_trace w ms reached end old new status is gives (at_turns fault between same puts some) = absurd (never_fault fault end status is gives same)
+whole_trace : (uses : Bool) (w : World) (ms : Moves) (reached end : Ending) (old new : SinkState) (status : Status) → IsEnd status → EndingStatus end status → TellsTo uses w ms reached end old new
+    → (end ≡ reached) × ArePut old (all_lines uses w ms reached) new
+whole_trace uses w ms reached end old new status is gives (all same puts) = (same, puts)
+whole_trace uses w ms reached end old new status is gives (in_move fault front m between same made puts some) = absurd (never_fault fault end status is gives same)
+whole_trace uses w ms reached end old new status is gives (before_move front m asked same made puts) = absurd (never_fault line.NoMemory end status is gives same)
+whole_trace uses w ms reached end old new status is gives (at_turns fault between same puts some) = absurd (never_fault fault end status is gives same)
 
 -- a trace over files that are told, whose run came to its end
 defined_trace : RunsAreAsPlain → (r : Request) (files : Files) (status : Status) (old new : Outside) → old.store.files ≡ Some files → IsEnd status → (a : Ran (TraceGoes r) r status old new)
     → AreFiles files → IsDefinedTrace r a.bytes a.file files status old new
 defined_trace law r files status old new e end a are =
     let to = a.went files are (a.told files e) in
-    let lines = whole_trace (run_world a.file r.arguments files) a.moves to.reached a.ending old.out new.out status end a.gives to.out in
+    let lines = whole_trace r.options.uses (run_world a.file r.arguments files) a.moves to.reached a.ending old.out new.out status end a.gives to.out in
     record {
       ending = to.reached;
       gives = subst (λ e. EndingStatus e status) lines.0 a.gives;
@@ -311,7 +308,6 @@ module _ (c : Command) (go : Going) (r : Request) (files : Files) (ends : Status
   by_image NoMemory old new e is h s o w = inl refl
   by_image Done old new e is h s o w = absurd h
   by_image Usage old new e is h s o w = absurd h
-  by_image NotBuilt old new e is h s o w = absurd h
   by_image (BadLine number) old new e is h s o w = absurd h
   by_image TooMany old new e is h s o w = absurd h
 
@@ -322,11 +318,10 @@ by_run law r files status old new e h s o w =
     by_image Run (RunGoes r) r files (λ status old new bytes file. AreFiles files → IsDefinedRun r bytes file files status old new) (λ status old new bytes by. by)
     status old new e (λ end a. defined_run law r files status old new e end a) h s o w
 
-by_uses : RunsAreAsPlain → (uses : Bool) (r : Request) (files : Files) (status : Status) (old new : Outside) → old.store.files ≡ Some files → TraceBy uses r status old new
+by_trace_moves : RunsAreAsPlain → (r : Request) (files : Files) (status : Status) (old new : Outside) → old.store.files ≡ Some files → TraceTo r status old new
     → Steady old.store.faults new.store.faults → Steady old.out.faults new.out.faults → Steady old.err.faults new.err.faults
-    → (status ≡ NoMemory) ⊎ ByUses uses files r status old new
-by_uses law true r files status old new e h s o w = inr h
-by_uses law false r files status old new e h s o w =
+    → (status ≡ NoMemory) ⊎ ByFile Trace (files (image_name r)) files r status old new
+by_trace_moves law r files status old new e h s o w =
     by_image Trace (TraceGoes r) r files (λ status old new bytes file. AreFiles files → IsDefinedTrace r bytes file files status old new) (λ status old new bytes by. by)
     status old new e (λ end a. defined_trace law r files status old new e end a) h s o w
 
@@ -383,7 +378,6 @@ by_replay r files (Exited c) old new e h s o = absurd h
 by_replay r files (Trapped t pc) old new e h s o = absurd h
 by_replay r files (TurnsOver count) old new e h s o = absurd h
 by_replay r files Usage old new e h s o = absurd h
-by_replay r files NotBuilt old new e h s o = absurd h
 
 -- the least number of fetches that was put is that of what the lines need
 planned_lines : (r : Request) (said : Result (List TraceLine) ℕ) (spots : List BlockSpot) (totals : PlanTotals) (old new : Outside) → needs_by [] said ≡ Ok spots
@@ -425,7 +419,6 @@ by_plan r files (Exited c) old new e h s o = absurd h
 by_plan r files (Trapped t pc) old new e h s o = absurd h
 by_plan r files (TurnsOver count) old new e h s o = absurd h
 by_plan r files Usage old new e h s o = absurd h
-by_plan r files NotBuilt old new e h s o = absurd h
 
 -- `demo`, status by status
 by_demo : (r : Request) (files : Files) (status : Status) (old new : Outside) → DemoTo r status old new → Steady old.out.faults new.out.faults
@@ -442,7 +435,6 @@ by_demo r files (Exited c) old new h o = absurd h
 by_demo r files (Trapped t pc) old new h o = absurd h
 by_demo r files (TurnsOver count) old new h o = absurd h
 by_demo r files Usage old new h o = absurd h
-by_demo r files NotBuilt old new h o = absurd h
 
 -- ---- commands
 
@@ -452,7 +444,7 @@ by_command : RunsAreAsPlain → (c : Command) (r : Request) (files : Files) (sta
 by_command law Plain r files status old new e h s o w = by_status r files status old new e h s o w
 by_command law Rewrite r files status old new e h s o w = by_rewrite r files status old new e h s o
 by_command law Run r files status old new e h s o w = by_run law r files status old new e h s o w
-by_command law Trace r files status old new e h s o w = by_uses law r.options.uses r files status old new e h s o w
+by_command law Trace r files status old new e h s o w = by_trace_moves law r files status old new e h s o w
 by_command law Demo r files status old new e h s o w = by_demo r files status old new h o
 by_command law Replay r files status old new e h s o w = by_replay r files status old new e h s o
 by_command law Plan r files status old new e h s o w = by_plan r files status old new e h s o
@@ -481,7 +473,6 @@ later_err r NoMemory old new (inl (inr (bytes, image, whole, verdict, silent))) 
 later_err r NoMemory old new (inr a) = run_later_err r _ old new a
 later_err r Done old new h = absurd h
 later_err r Usage old new h = absurd h
-later_err r NotBuilt old new h = absurd h
 later_err r (BadLine number) old new h = absurd h
 later_err r TooMany old new h = absurd h
 
@@ -501,13 +492,8 @@ image_err go r NoMemory old new (inl (inr (bytes, whole, may, silent))) = silent
 image_err go r NoMemory old new (inr a) = a.later.err
 image_err go r Done old new h = absurd h
 image_err go r Usage old new h = absurd h
-image_err go r NotBuilt old new h = absurd h
 image_err go r (BadLine number) old new h = absurd h
 image_err go r TooMany old new h = absurd h
-
-trace_err : (uses : Bool) (r : Request) (status : Status) (old new : Outside) → TraceBy uses r status old new → old.err.faults ≤ new.err.faults
-trace_err true r status old new h = silent_err old new h.1.1
-trace_err false r status old new h = image_err (TraceGoes r) r status old new h
 
 -- rewriting puts nothing on standard error
 rewrite_err : (r : Request) (status : Status) (old new : Outside) → RewriteTo r status old new → new.err ≡ old.err
@@ -523,7 +509,6 @@ rewrite_err r (Exited c) old new h = absurd h
 rewrite_err r (Trapped t pc) old new h = absurd h
 rewrite_err r (TurnsOver count) old new h = absurd h
 rewrite_err r Usage old new h = absurd h
-rewrite_err r NotBuilt old new h = absurd h
 rewrite_err r (BadLine number) old new h = absurd h
 rewrite_err r TooMany old new h = absurd h
 
@@ -542,7 +527,6 @@ replay_err r (Exited c) old new h = absurd h
 replay_err r (Trapped t pc) old new h = absurd h
 replay_err r (TurnsOver count) old new h = absurd h
 replay_err r Usage old new h = absurd h
-replay_err r NotBuilt old new h = absurd h
 
 -- nor planning for one
 plan_err : (r : Request) (status : Status) (old new : Outside) → PlanTo r status old new → new.err ≡ old.err
@@ -559,7 +543,6 @@ plan_err r (Exited c) old new h = absurd h
 plan_err r (Trapped t pc) old new h = absurd h
 plan_err r (TurnsOver count) old new h = absurd h
 plan_err r Usage old new h = absurd h
-plan_err r NotBuilt old new h = absurd h
 
 -- nor does `demo`
 demo_err : (r : Request) (status : Status) (old new : Outside) → DemoTo r status old new → new.err ≡ old.err
@@ -575,13 +558,12 @@ demo_err r (Exited c) old new h = absurd h
 demo_err r (Trapped t pc) old new h = absurd h
 demo_err r (TurnsOver count) old new h = absurd h
 demo_err r Usage old new h = absurd h
-demo_err r NotBuilt old new h = absurd h
 
 later_in : (c : Command) (r : Request) (status : Status) (old new : Outside) → CommandTo c r status old new → old.err.faults ≤ new.err.faults
 later_in Plain r status old new h = later_err r status old new h
 later_in Rewrite r status old new h = (let same = ap (λ s. s.faults) (rewrite_err r status old new h) in omega arith)
 later_in Run r status old new h = image_err (RunGoes r) r status old new h
-later_in Trace r status old new h = trace_err r.options.uses r status old new h
+later_in Trace r status old new h = image_err (TraceGoes r) r status old new h
 later_in Demo r status old new h = (let same = ap (λ s. s.faults) (demo_err r status old new h) in omega arith)
 later_in Replay r status old new h = (let same = ap (λ s. s.faults) (replay_err r status old new h) in omega arith)
 later_in Plan r status old new h = (let same = ap (λ s. s.faults) (plan_err r status old new h) in omega arith)

@@ -30,7 +30,7 @@ use Rattle.command_words.specs.declared.request.Request.{Request}
 use Rattle.spechint_commands.specs.Run.{asked_file, MayOpen}
 use Rattle.spechint_commands.specs.Opens.{HoldsRewritten, OpensFile, OpensTo}
 use Rattle.spechint_commands.specs.declared.status.Status.{Status}
-use Rattle.spechint_commands.specs.declared.status.Status.TheVariants.{Done, Exited, Trapped, TurnsOver, Usage, NotBuilt, Absent, Refused, BadLine, TooMany, StoreFault, SinkFault, NoMemory}
+use Rattle.spechint_commands.specs.declared.status.Status.TheVariants.{Done, Exited, Trapped, TurnsOver, Usage, Absent, Refused, BadLine, TooMany, StoreFault, SinkFault, NoMemory}
 
 -- ---- the buffer
 
@@ -99,7 +99,6 @@ original-OpensTo r bytes file answer law all some few (image, accepted, same) h 
     by_answer (Err (Trapped cause pc)) h = absurd h
     by_answer (Err (TurnsOver count)) h = absurd h
     by_answer (Err Usage) h = absurd h
-    by_answer (Err NotBuilt) h = absurd h
     by_answer (Err Absent) h = absurd h
     by_answer (Err (BadLine n)) h = absurd h
     by_answer (Err TooMany) h = absurd h
@@ -128,7 +127,6 @@ rewritten-OpensTo r bytes answer refused h = by_answer answer h
     by_answer (Err (Trapped cause pc)) h = absurd h
     by_answer (Err (TurnsOver count)) h = absurd h
     by_answer (Err Usage) h = absurd h
-    by_answer (Err NotBuilt) h = absurd h
     by_answer (Err Absent) h = absurd h
     by_answer (Err (BadLine n)) h = absurd h
     by_answer (Err TooMany) h = absurd h

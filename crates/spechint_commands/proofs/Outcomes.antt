@@ -11,7 +11,7 @@ use Rattle.plain_runner.specs.Runs.{Outside}
 use Rattle.spechint_commands.specs.Common.{FileRead, Silent, image_name}
 use Rattle.spechint_commands.specs.Top.{Accepted, PlainTo, RunsImage, Rewrites, RewrittenStatus, RewriteTo, ReplayTo, PlanTo}
 use Rattle.spechint_commands.specs.declared.status.Status.{Status}
-use Rattle.spechint_commands.specs.declared.status.Status.TheVariants.{Done, Exited, Trapped, TurnsOver, Usage, NotBuilt, Absent, Refused, BadLine, TooMany, StoreFault, SinkFault, NoMemory}
+use Rattle.spechint_commands.specs.declared.status.Status.TheVariants.{Done, Exited, Trapped, TurnsOver, Usage, Absent, Refused, BadLine, TooMany, StoreFault, SinkFault, NoMemory}
 
 -- a run of the image's program is an outcome of `plain`
 pub accepted-PlainTo : (r : Request) (status : Status) (old new : Outside) → Accepted r status old new → PlainTo r status old new
@@ -23,7 +23,6 @@ accepted-PlainTo r StoreFault old new a = inr a
 accepted-PlainTo r NoMemory old new a = inr a
 accepted-PlainTo r Done old new a = absurd a.ran.gives
 accepted-PlainTo r Usage old new a = absurd a.ran.gives
-accepted-PlainTo r NotBuilt old new a = absurd a.ran.gives
 accepted-PlainTo r (BadLine number) old new a = absurd a.ran.gives
 accepted-PlainTo r TooMany old new a = absurd a.ran.gives
 accepted-PlainTo r Absent old new a = absurd a.ran.gives
@@ -49,7 +48,6 @@ unread-PlainTo r StoreFault old new h silent = inl (h, silent)
 unread-PlainTo r NoMemory old new h silent = inl (inl (h, silent))
 unread-PlainTo r Done old new h silent = absurd h
 unread-PlainTo r Usage old new h silent = absurd h
-unread-PlainTo r NotBuilt old new h silent = absurd h
 unread-PlainTo r (BadLine number) old new h silent = absurd h
 unread-PlainTo r TooMany old new h silent = absurd h
 unread-PlainTo r SinkFault old new h silent = absurd h
@@ -65,7 +63,6 @@ unread-RewriteTo r StoreFault old new h silent = (h, silent)
 unread-RewriteTo r NoMemory old new h silent = inl (h, silent)
 unread-RewriteTo r Done old new h silent = absurd h
 unread-RewriteTo r Usage old new h silent = absurd h
-unread-RewriteTo r NotBuilt old new h silent = absurd h
 unread-RewriteTo r (BadLine number) old new h silent = absurd h
 unread-RewriteTo r TooMany old new h silent = absurd h
 unread-RewriteTo r SinkFault old new h silent = absurd h
@@ -81,7 +78,6 @@ unread-ReplayTo r StoreFault old new h silent = (h, silent)
 unread-ReplayTo r NoMemory old new h silent = inl (h, silent)
 unread-ReplayTo r Done old new h silent = absurd h
 unread-ReplayTo r Usage old new h silent = absurd h
-unread-ReplayTo r NotBuilt old new h silent = absurd h
 unread-ReplayTo r SinkFault old new h silent = absurd h
 unread-ReplayTo r (BadLine number) old new h silent = absurd h
 unread-ReplayTo r TooMany old new h silent = absurd h
@@ -97,7 +93,6 @@ unread-PlanTo r StoreFault old new h silent = (h, silent)
 unread-PlanTo r NoMemory old new h silent = inl (h, silent)
 unread-PlanTo r Done old new h silent = absurd h
 unread-PlanTo r Usage old new h silent = absurd h
-unread-PlanTo r NotBuilt old new h silent = absurd h
 unread-PlanTo r SinkFault old new h silent = absurd h
 unread-PlanTo r (BadLine number) old new h silent = absurd h
 unread-PlanTo r TooMany old new h silent = absurd h

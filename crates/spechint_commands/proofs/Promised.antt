@@ -7,17 +7,18 @@ use Rattle.run_promises.specs.Laws.{RunsKeep}
 use Rattle.file_world.specs.Worlds.{AreFiles}
 use Rattle.file_runs.specs.Runs.{run_world, plain_program, RunWorldsAreAccepted, RunsAreAsPlain, RunsFinish, RunsGetOn}
 use Rattle.runner_parts.specs.Heard.{AreTrueOf}
+use Rattle.program_driver.proofs.FirstUses.{uses-are-first}
 use Rattle.program_driver.specs.Traces.{over_bottomless}
 use Rattle.command_words.specs.CommandLine.{command_of}
 use Rattle.command_words.specs.declared.command.Command.{Command}
 use Rattle.command_words.specs.declared.command.Command.TheVariants.{Plain, Rewrite, Run, Trace, Demo, Replay, Plan}
 use Rattle.command_words.specs.declared.request.Request.{Request}
 use Rattle.spechint_commands.specs.Common.{EndingStatus, Silent, image_name}
-use Rattle.spechint_commands.specs.Run.{Going, Ran, ImageTo, RunGoes, TraceGoes, TraceBy}
+use Rattle.spechint_commands.specs.Run.{Going, Ran, ImageTo, RunGoes, TraceGoes}
 use Rattle.spechint_commands.specs.Top.{CommandTo, IsOutcome, Tells}
-use Rattle.spechint_commands.specs.Promised.{IsKept, IsTraceKept, Promise, KeepsPromise, PutsTextAlone, ImagePromises, TracePromises, CommandPromises, Promises}
+use Rattle.spechint_commands.specs.Promised.{IsKept, IsTraceKept, Promise, KeepsPromise, PutsTextAlone, ImagePromises, CommandPromises, Promises}
 use Rattle.spechint_commands.specs.declared.status.Status.{Status}
-use Rattle.spechint_commands.specs.declared.status.Status.TheVariants.{Done, Exited, Trapped, TurnsOver, Usage, NotBuilt, Absent, Refused, BadLine, TooMany, StoreFault, SinkFault, NoMemory}
+use Rattle.spechint_commands.specs.declared.status.Status.TheVariants.{Done, Exited, Trapped, TurnsOver, Usage, Absent, Refused, BadLine, TooMany, StoreFault, SinkFault, NoMemory}
 use Rattle.spechint_commands.proofs.AsPlain.{as_plain-store}
 use Rattle.spechint_commands.proofs.Causes.{ByMemory}
 
@@ -73,6 +74,7 @@ module _ (law : Laws) (r : Request) where
         as_plain = as_plain-store program files to.reached a.between (over_bottomless old.store) after
             (law.plain r.options.regions r.options.layout a.bytes a.file r.arguments files given r.options.pattern r.options.turns to.reached a.moves before after to.moves);
         lines = to.out;
+        uses = uses-are-first world a.moves;
         tells = subst (λ s. Tells status (image_name r) s new.err) to.err tells;
         gives = a.gives;
         keeps = law.keep world (law.worlds r.options.regions r.options.layout a.bytes a.file r.arguments files given) a.moves;
@@ -117,21 +119,15 @@ module _ (law : Laws) (r : Request) where
     by_status (Refused why) (inr (bytes, read, opens, silent)) tells = text-alone (Refused why) old new err silent tells
     by_status Done h tells = h
     by_status Usage h tells = h
-    by_status NotBuilt h tells = h
     by_status (BadLine n) h tells = h
     by_status TooMany h tells = h
-
-  by_uses : (uses : Bool) (status : Status) (old new : Outside) (err : SinkState) → TraceBy uses r status old (record new { err = err }) → Tells status (image_name r) err new.err
-      → TracePromises uses r status old new
-  by_uses true status old new err h tells = text-alone status old new err h.1.1 tells
-  by_uses false status old new err h tells =
-      by_status (TraceGoes r) (λ status bytes file moves files. IsTraceKept r bytes file moves files status old new) old new err (λ status a tells. is_trace_kept status old new err a tells) status h tells
 
   by_command : (c : Command) (status : Status) (old new : Outside) (err : SinkState) → CommandTo c r status old (record new { err = err }) → Tells status (image_name r) err new.err
       → CommandPromises c r status old new
   by_command Run status old new err h tells =
       by_status (RunGoes r) (λ status bytes file moves files. IsKept r bytes file moves files status old new) old new err (λ status a tells. is_kept status old new err a tells) status h tells
-  by_command Trace status old new err h tells = by_uses r.options.uses status old new err h tells
+  by_command Trace status old new err h tells =
+      by_status (TraceGoes r) (λ status bytes file moves files. IsTraceKept r bytes file moves files status old new) old new err (λ status a tells. is_trace_kept status old new err a tells) status h tells
   by_command Plain status old new err h tells = tt
   by_command Rewrite status old new err h tells = tt
   by_command Demo status old new err h tells = tt
@@ -139,13 +135,9 @@ module _ (law : Laws) (r : Request) where
   by_command Plan status old new err h tells = tt
 
 -- where there was no memory to read the words
-trace_starved : (uses : Bool) (r : Request) (old new : Outside) → PutsTextAlone r NoMemory old new → TracePromises uses r NoMemory old new
-trace_starved true r old new h = h
-trace_starved false r old new h = inl h
-
 starved : (c : Command) (r : Request) (old new : Outside) → PutsTextAlone r NoMemory old new → CommandPromises c r NoMemory old new
 starved Run r old new h = inl h
-starved Trace r old new h = trace_starved r.options.uses r old new h
+starved Trace r old new h = inl h
 starved Plain r old new h = tt
 starved Rewrite r old new h = tt
 starved Demo r old new h = tt

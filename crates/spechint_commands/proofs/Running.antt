@@ -18,9 +18,9 @@ use Rattle.command_words.specs.Limits.{IsWithinLimits}
 use Rattle.command_words.specs.declared.request.Request.{Request}
 use Rattle.spechint_commands.specs.Common.{FileRead, Silent, ReadsFile, EndingStatus, image_name}
 use Rattle.spechint_commands.specs.Opens.{OpensTo}
-use Rattle.spechint_commands.specs.Run.{Going, Ran, ImageTo, TraceGoes, TraceBy}
+use Rattle.spechint_commands.specs.Run.{Going, Ran, ImageTo}
 use Rattle.spechint_commands.specs.declared.status.Status.{Status}
-use Rattle.spechint_commands.specs.declared.status.Status.TheVariants.{Done, Exited, Trapped, TurnsOver, Usage, NotBuilt, Absent, Refused, BadLine, TooMany, StoreFault, SinkFault, NoMemory}
+use Rattle.spechint_commands.specs.declared.status.Status.TheVariants.{Done, Exited, Trapped, TurnsOver, Usage, Absent, Refused, BadLine, TooMany, StoreFault, SinkFault, NoMemory}
 
 -- a run of no moves stands where it was opened
 pub opened-now : (v : Runner) (w : World) → Shows v w (run w []) → Shows v w (opened_run w)
@@ -68,7 +68,6 @@ ran-ImageTo go r StoreFault old new h = inr h
 ran-ImageTo go r NoMemory old new h = inr h
 ran-ImageTo go r Done old new h = absurd h.gives
 ran-ImageTo go r Usage old new h = absurd h.gives
-ran-ImageTo go r NotBuilt old new h = absurd h.gives
 ran-ImageTo go r (BadLine number) old new h = absurd h.gives
 ran-ImageTo go r TooMany old new h = absurd h.gives
 ran-ImageTo go r Absent old new h = absurd h.gives
@@ -82,7 +81,6 @@ unread-ImageTo go r StoreFault old new h silent = inl (h, silent)
 unread-ImageTo go r NoMemory old new h silent = inl (inl (h, silent))
 unread-ImageTo go r Done old new h silent = absurd h
 unread-ImageTo go r Usage old new h silent = absurd h
-unread-ImageTo go r NotBuilt old new h silent = absurd h
 unread-ImageTo go r (BadLine number) old new h silent = absurd h
 unread-ImageTo go r TooMany old new h silent = absurd h
 unread-ImageTo go r SinkFault old new h silent = absurd h
@@ -98,15 +96,9 @@ unopened-ImageTo go r bytes Absent old new read h silent = absurd h
 unopened-ImageTo go r bytes StoreFault old new read h silent = absurd h
 unopened-ImageTo go r bytes Done old new read h silent = absurd h
 unopened-ImageTo go r bytes Usage old new read h silent = absurd h
-unopened-ImageTo go r bytes NotBuilt old new read h silent = absurd h
 unopened-ImageTo go r bytes (BadLine number) old new read h silent = absurd h
 unopened-ImageTo go r bytes TooMany old new read h silent = absurd h
 unopened-ImageTo go r bytes SinkFault old new read h silent = absurd h
 unopened-ImageTo go r bytes (Exited code) old new read h silent = absurd h
 unopened-ImageTo go r bytes (Trapped cause pc) old new read h silent = absurd h
 unopened-ImageTo go r bytes (TurnsOver count) old new read h silent = absurd h
-
--- a trace without the lines of uses
-pub image-TraceBy : (uses : Bool) (r : Request) (status : Status) (old new : Outside) → uses ≡ false → ImageTo (TraceGoes r) r status old new → TraceBy uses r status old new
-image-TraceBy false r status old new e h = h
-image-TraceBy true r status old new e h = absurd (let bad = e in cc)

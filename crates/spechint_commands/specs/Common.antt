@@ -11,7 +11,7 @@ use Rattle.plain_runner.specs.declared.ending.Ending.{Ending}
 use Rattle.plain_runner.specs.declared.ending.Ending.TheVariants as ending
 use Rattle.command_words.specs.declared.request.Request.{Request}
 use Rattle.spechint_commands.specs.declared.status.Status.{Status}
-use Rattle.spechint_commands.specs.declared.status.Status.TheVariants.{Done, Exited, Trapped, TurnsOver, Usage, NotBuilt, Absent, Refused, BadLine, TooMany, StoreFault, SinkFault, NoMemory}
+use Rattle.spechint_commands.specs.declared.status.Status.TheVariants.{Done, Exited, Trapped, TurnsOver, Usage, Absent, Refused, BadLine, TooMany, StoreFault, SinkFault, NoMemory}
 
 -- ---- reading the image or the trace
 
@@ -62,7 +62,6 @@ EndingStatus end SinkFault = end ≡ ending.SinkFault
 EndingStatus end NoMemory = end ≡ ending.NoMemory
 EndingStatus end Done = ⊥
 EndingStatus end Usage = ⊥
-EndingStatus end NotBuilt = ⊥
 EndingStatus end Absent = ⊥
 EndingStatus end (Refused why) = ⊥
 EndingStatus end (BadLine n) = ⊥

@@ -35,12 +35,12 @@ use Rattle.fetch_plan.specs.Traces.{HasLeast}
 use Rattle.fetch_plan.specs.declared.traces.PlanTotals.{PlanTotals}
 use Rattle.spechint_commands.specs.Texts.{text_of}
 use Rattle.spechint_commands.specs.Lines.{replay_line, plan_line}
-use Rattle.spechint_commands.specs.Common.{Silent, Untouched, EndingStatus, PutsLine, image_name}
+use Rattle.spechint_commands.specs.Common.{Silent, EndingStatus, PutsLine, image_name}
 use Rattle.spechint_commands.specs.Run.{asked_file}
 use Rattle.spechint_commands.specs.Demo.{IsDemoLine}
 use Rattle.spechint_commands.specs.Top.{settings_of, asked_program}
 use Rattle.spechint_commands.specs.declared.status.Status.{Status}
-use Rattle.spechint_commands.specs.declared.status.Status.TheVariants.{Done, Exited, Trapped, TurnsOver, Usage, NotBuilt, Absent, Refused, BadLine, TooMany, StoreFault, SinkFault, NoMemory}
+use Rattle.spechint_commands.specs.declared.status.Status.TheVariants.{Done, Exited, Trapped, TurnsOver, Usage, Absent, Refused, BadLine, TooMany, StoreFault, SinkFault, NoMemory}
 
 -- ---- a program's run
 
@@ -51,7 +51,6 @@ EndsAs p files t turns n s (Trapped cause pc) = (n < turns) × (s.exited ≡ Non
 EndsAs p files t turns n s (TurnsOver count) = (n ≡ turns) × (s.exited ≡ None) × (count ≡ turns)
 EndsAs p files t turns n s Done = ⊥
 EndsAs p files t turns n s Usage = ⊥
-EndsAs p files t turns n s NotBuilt = ⊥
 EndsAs p files t turns n s Absent = ⊥
 EndsAs p files t turns n s (Refused why) = ⊥
 EndsAs p files t turns n s StoreFault = ⊥
@@ -92,14 +91,14 @@ pub record IsDefinedRun (r : Request) (bytes file : List ℕ) (files : Files) (s
   pub as_plain : IsAsPlain (plain_program r.options.layout bytes r.arguments) files ending old (record new { err = behind })
   pub reports : ArePut behind (report_lines (is_reported r.options.report ending) (run (run_world file r.arguments files) moves)) new.err
 
--- and of a trace: the lines of all that the moves tell were put, and the line of the turns where all were made
+-- and of a trace: the lines of all that the moves tell were put, with those of first uses where they were asked for, and the line of the turns where all were made
 pub record IsDefinedTrace (r : Request) (bytes file : List ℕ) (files : Files) (status : Status) (old new : Outside) : Type 0 where
   pub ending : Ending
   pub gives : EndingStatus ending status
   pub moves : Moves
   pub made : AreMade (run_world file r.arguments files) r.options.pattern r.options.turns moves
   pub as_plain : IsAsPlain (plain_program r.options.layout bytes r.arguments) files ending (over_bottomless old.store) (over_bottomless new.store)
-  pub lines : ArePut old.out (all_lines (run_world file r.arguments files) moves ending) new.out
+  pub lines : ArePut old.out (all_lines r.options.uses (run_world file r.arguments files) moves ending) new.out
   pub err : new.err ≡ old.err
 
 -- what a file comes to: it is refused, or the program of the file that is executed comes to an end
@@ -175,17 +174,12 @@ ByTraceFile c (Some bytes) r status old new = ByTraceSize c (nat_lt file_limit (
 
 -- ---- all commands
 
--- a trace with the lines of uses isn't built yet
-abbrev pub ByUses : Bool → Files → Request → Status → Outside → Outside → Type 0
-ByUses true files r status old new = (status ≡ NotBuilt) × Untouched old new
-ByUses false files r status old new = ByFile Trace (files (image_name r)) files r status old new
-
 -- by the command
 abbrev pub ByCommand : Command → Files → Request → Status → Outside → Outside → Type 0
 ByCommand Plain files r status old new = ByFile Plain (files (image_name r)) files r status old new
 ByCommand Rewrite files r status old new = ByFile Rewrite (files (image_name r)) files r status old new
 ByCommand Run files r status old new = ByFile Run (files (image_name r)) files r status old new
-ByCommand Trace files r status old new = ByUses r.options.uses files r status old new
+ByCommand Trace files r status old new = ByFile Trace (files (image_name r)) files r status old new
 ByCommand Demo files r status old new = (status ≡ Done) × (line : List ℕ) × IsDemoLine r line × PutsLine line true old new × (new.store ≡ old.store)
 ByCommand Replay files r status old new = ByTraceFile Replay (files (image_name r)) r status old new
 ByCommand Plan files r status old new = ByTraceFile Plan (files (image_name r)) r status old new

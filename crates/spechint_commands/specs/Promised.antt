@@ -13,6 +13,7 @@ use Rattle.file_runs.specs.Runs.{run_world, plain_program}
 use Rattle.runner_parts.specs.Heard.{Said, AreTrueOf}
 use Rattle.program_driver.specs.Lines.{LinesTo, ending_with}
 use Rattle.program_driver.specs.Runs.{report_lines, is_reported}
+use Rattle.program_driver.specs.Uses.{UsesAreFirst}
 use Rattle.program_driver.specs.Traces.{TellsTo, over_bottomless}
 use Rattle.program_driver.specs.declared.lines.LineFault.{LineFault}
 use Rattle.command_words.specs.CommandLine.{command_of}
@@ -23,7 +24,7 @@ use Rattle.spechint_commands.specs.Common.{EndingStatus, image_name}
 use Rattle.spechint_commands.specs.Run.{asked_file}
 use Rattle.spechint_commands.specs.Top.{Tells}
 use Rattle.spechint_commands.specs.declared.status.Status.{Status}
-use Rattle.spechint_commands.specs.declared.status.Status.TheVariants.{Done, Exited, Trapped, TurnsOver, Usage, NotBuilt, Absent, Refused, BadLine, TooMany, StoreFault, SinkFault, NoMemory}
+use Rattle.spechint_commands.specs.declared.status.Status.TheVariants.{Done, Exited, Trapped, TurnsOver, Usage, Absent, Refused, BadLine, TooMany, StoreFault, SinkFault, NoMemory}
 
 -- moves of a file's world, over these files, came to an end. Standard error has what the program put, behind it the report's line where it was asked for, and then the text of the status
 pub record IsKept (r : Request) (bytes file : List ℕ) (moves : Moves) (files : Files) (status : Status) (old new : Outside) : Type 0 where
@@ -49,7 +50,9 @@ pub record IsTraceKept (r : Request) (bytes file : List ℕ) (moves : Moves) (fi
   pub ending : Ending
   pub made : AreMade (run_world file r.arguments files) r.options.pattern r.options.turns moves
   pub as_plain : IsAsPlain (plain_program r.options.layout bytes r.arguments) files reached (over_bottomless old.store) (over_bottomless new.store)
-  pub lines : TellsTo (run_world file r.arguments files) moves reached ending old.out new.out
+  pub lines : TellsTo r.options.uses (run_world file r.arguments files) moves reached ending old.out new.out
+  -- with uses a line says the first use, which is the one that the hints rest on while the program isn't past its shadow
+  pub uses : UsesAreFirst (run_world file r.arguments files) moves
   pub tells : Tells status (image_name r) old.err new.err
   pub gives : EndingStatus ending status
   pub keeps : Keeps (run_world file r.arguments files) moves
@@ -88,19 +91,13 @@ ImagePromises promise r Absent old new = PutsTextAlone r Absent old new
 ImagePromises promise r (Refused why) old new = PutsTextAlone r (Refused why) old new
 ImagePromises promise r Done old new = ⊥
 ImagePromises promise r Usage old new = ⊥
-ImagePromises promise r NotBuilt old new = ⊥
 ImagePromises promise r (BadLine n) old new = ⊥
 ImagePromises promise r TooMany old new = ⊥
-
--- a trace with the lines of uses isn't built yet
-abbrev pub TracePromises : Bool → Request → Status → Outside → Outside → Type 0
-TracePromises true r status old new = PutsTextAlone r status old new
-TracePromises false r status old new = ImagePromises (λ status bytes file moves files. IsTraceKept r bytes file moves files status old new) r status old new
 
 -- by the command
 abbrev pub CommandPromises : Command → Request → Status → Outside → Outside → Type 0
 CommandPromises Run r status old new = ImagePromises (λ status bytes file moves files. IsKept r bytes file moves files status old new) r status old new
-CommandPromises Trace r status old new = TracePromises r.options.uses r status old new
+CommandPromises Trace r status old new = ImagePromises (λ status bytes file moves files. IsTraceKept r bytes file moves files status old new) r status old new
 CommandPromises other r status old new = Unit {0}
 
 -- where the words ask for a command

@@ -1,5 +1,5 @@
 -- What the commands `run` and `trace` do, status by status: a file is read and opened, and the moves of a pattern are made (this project's own).
-use Rattle.std.specs.Prelude.{◌≡◌, ◌⊎◌, ℕ, Bool, true, false, List, Some, None, Result, Ok, Err}
+use Rattle.std.specs.Prelude.{◌≡◌, ◌⊎◌, ℕ, List, Some, None, Result, Ok, Err}
 use Rattle.spec_base.specs.Files.{Files}
 use Rattle.world_io.specs.Outside.{StoreState}
 use Rattle.whole_file.specs.Reading.{ReadsWhole}
@@ -21,9 +21,9 @@ use Rattle.program_driver.specs.Causes.{HasCause}
 use Rattle.program_driver.specs.Runs.{RunsTo}
 use Rattle.program_driver.specs.Traces.{TracesTo}
 use Rattle.command_words.specs.declared.request.Request.{Request}
-use Rattle.spechint_commands.specs.Common.{Silent, Untouched, Stopped, ReadsFile, EndingStatus, image_name}
+use Rattle.spechint_commands.specs.Common.{Silent, Stopped, ReadsFile, EndingStatus, image_name}
 use Rattle.spechint_commands.specs.declared.status.Status.{Status}
-use Rattle.spechint_commands.specs.declared.status.Status.TheVariants.{Done, Exited, Trapped, TurnsOver, Usage, NotBuilt, Absent, Refused, BadLine, TooMany, StoreFault, SinkFault, NoMemory}
+use Rattle.spechint_commands.specs.declared.status.Status.TheVariants.{Done, Exited, Trapped, TurnsOver, Usage, Absent, Refused, BadLine, TooMany, StoreFault, SinkFault, NoMemory}
 
 -- ---- opening
 
@@ -82,7 +82,6 @@ ImageTo go r StoreFault old new = Stopped r read.Failed old new ⊎ Ran go r Sto
 ImageTo go r NoMemory old new = (Stopped r read.NoMemory old new ⊎ IsOpeningStarved r old new) ⊎ Ran go r NoMemory old new
 ImageTo go r Done old new = ⊥
 ImageTo go r Usage old new = ⊥
-ImageTo go r NotBuilt old new = ⊥
 ImageTo go r (BadLine n) old new = ⊥
 ImageTo go r TooMany old new = ⊥
 
@@ -92,18 +91,14 @@ ImageTo go r TooMany old new = ⊥
 abbrev pub RunGoes : Request → Going
 RunGoes r = RunsTo r.options.pattern r.options.turns r.options.report
 
--- the moves of the pattern, with the lines of what they tell
+-- the moves of the pattern, with the lines of what they tell, and of first uses where they are asked for
 abbrev pub TraceGoes : Request → Going
-TraceGoes r = TracesTo r.options.pattern r.options.turns
+TraceGoes r = TracesTo r.options.uses r.options.pattern r.options.turns
 
 -- what a status says of the command `run`
 abbrev pub RunTo : Request → Status → Outside → Outside → Type 0
 RunTo r status old new = ImageTo (RunGoes r) r status old new
 
--- what a status says of the command `trace`. With the lines of uses it isn't built yet
-abbrev pub TraceBy : Bool → Request → Status → Outside → Outside → Type 0
-TraceBy true r status old new = (status ≡ NotBuilt) × Untouched old new
-TraceBy false r status old new = ImageTo (TraceGoes r) r status old new
-
+-- what a status says of the command `trace`
 abbrev pub TraceTo : Request → Status → Outside → Outside → Type 0
-TraceTo r status old new = TraceBy r.options.uses r status old new
+TraceTo r status old new = ImageTo (TraceGoes r) r status old new

@@ -4,7 +4,7 @@ use Rattle.std.specs.Fmt.{digits}
 use Rattle.elf_image.specs.Refusals.{refusal_name, refusal_number}
 use Rattle.trace_text.specs.Line.{trap_name}
 use Rattle.spechint_commands.specs.declared.status.Status.{Status}
-use Rattle.spechint_commands.specs.declared.status.Status.TheVariants.{Done, Exited, Trapped, TurnsOver, Usage, NotBuilt, Absent, Refused, BadLine, TooMany, StoreFault, SinkFault, NoMemory}
+use Rattle.spechint_commands.specs.declared.status.Status.TheVariants.{Done, Exited, Trapped, TurnsOver, Usage, Absent, Refused, BadLine, TooMany, StoreFault, SinkFault, NoMemory}
 
 -- the exit code: the program's own, or one that tells why there is none
 abbrev pub code_of : Status → ℕ
@@ -20,7 +20,6 @@ code_of SinkFault = 123
 code_of (TurnsOver count) = 124
 code_of NoMemory = 125
 code_of (Trapped cause pc) = 126
-code_of NotBuilt = 127
 
 -- ---- the text of a status, in seven parts. The name is the word for the image or the trace
 
@@ -38,7 +37,6 @@ opening StoreFault = codes "spechint: read fault"
 opening NoMemory = codes "spechint: out of memory"
 opening (Trapped cause pc) = codes "spechint: trap "
 opening (TurnsOver count) = codes "spechint: turns over after "
-opening NotBuilt = codes "spechint: not built yet"
 
 -- what it speaks of
 abbrev pub subject : Status → List ℕ → List ℕ

@@ -35,7 +35,7 @@ use Rattle.spechint_commands.specs.Common.{Silent, Untouched, Stopped, ReadsFile
 use Rattle.spechint_commands.specs.Run.{RunTo, TraceTo}
 use Rattle.spechint_commands.specs.Demo.{DemoTo}
 use Rattle.spechint_commands.specs.declared.status.Status.{Status}
-use Rattle.spechint_commands.specs.declared.status.Status.TheVariants.{Done, Exited, Trapped, TurnsOver, Usage, NotBuilt, Absent, Refused, BadLine, TooMany, StoreFault, SinkFault, NoMemory}
+use Rattle.spechint_commands.specs.declared.status.Status.TheVariants.{Done, Exited, Trapped, TurnsOver, Usage, Absent, Refused, BadLine, TooMany, StoreFault, SinkFault, NoMemory}
 
 -- ---- the command `plain`
 
@@ -87,7 +87,6 @@ PlainTo r StoreFault old new = Stopped r read.Failed old new ⊎ Accepted r Stor
 PlainTo r NoMemory old new = (Stopped r read.NoMemory old new ⊎ IsStarved r old new) ⊎ Accepted r NoMemory old new
 PlainTo r Done old new = ⊥
 PlainTo r Usage old new = ⊥
-PlainTo r NotBuilt old new = ⊥
 PlainTo r (BadLine n) old new = ⊥
 PlainTo r TooMany old new = ⊥
 
@@ -118,7 +117,6 @@ RewriteTo r (Exited code) old new = ⊥
 RewriteTo r (Trapped cause pc) old new = ⊥
 RewriteTo r (TurnsOver count) old new = ⊥
 RewriteTo r Usage old new = ⊥
-RewriteTo r NotBuilt old new = ⊥
 RewriteTo r (BadLine n) old new = ⊥
 RewriteTo r TooMany old new = ⊥
 
@@ -156,7 +154,6 @@ ReplayTo r (Exited code) old new = ⊥
 ReplayTo r (Trapped cause pc) old new = ⊥
 ReplayTo r (TurnsOver count) old new = ⊥
 ReplayTo r Usage old new = ⊥
-ReplayTo r NotBuilt old new = ⊥
 
 -- the line with the least number of fetches for all needs of the trace was put: some plan costs it, and every other at least as much
 abbrev pub Plans : Request → Bool → Outside → Outside → Type 0
@@ -184,7 +181,6 @@ PlanTo r (Exited code) old new = ⊥
 PlanTo r (Trapped cause pc) old new = ⊥
 PlanTo r (TurnsOver count) old new = ⊥
 PlanTo r Usage old new = ⊥
-PlanTo r NotBuilt old new = ⊥
 
 -- ---- all commands
 

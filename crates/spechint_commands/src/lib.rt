@@ -11,8 +11,6 @@ mod replay;
 mod rewrite;
 mod run;
 mod status;
-#[cfg(test)]
-mod tests;
 mod top;
 mod trace;
 

@@ -27,8 +27,6 @@ pub enum Status {
     TurnsOver(u64),
     /// The words are no command line.
     Usage,
-    /// What was asked for isn't built yet.
-    NotBuilt,
     /// The store has no file of the name.
     Absent,
     /// The file isn't an image of the profile.
@@ -63,7 +61,6 @@ impl Status {
             Status::TurnsOver(_) => 124,
             Status::NoMemory => 125,
             Status::Trapped(_, _) => 126,
-            Status::NotBuilt => 127,
         }
     }
 
@@ -81,7 +78,6 @@ impl Status {
             Status::NoMemory => b"spechint: out of memory",
             Status::Trapped(_, _) => b"spechint: trap ",
             Status::TurnsOver(_) => b"spechint: turns over after ",
-            Status::NotBuilt => b"spechint: not built yet",
         }
     }
 

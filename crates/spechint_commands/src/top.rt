@@ -76,7 +76,7 @@ fn outcome<D: Store, O: Sink, E: Sink>(
 /// Does what the words of a command line say, over a store of files and two sinks: `plain` runs an
 /// image by itself, `rewrite` puts its rewritten file, `run` runs that beside its shadow, `trace` puts what
 /// its moves tell, `demo` runs a program of its own, `replay` runs a cache again from a trace, and `plan`
-/// tells the fewest fetches for one. A trace's lines of uses aren't built yet.
+/// tells the fewest fetches for one.
 pub fn spechint<D: Store, O: Sink, E: Sink>(
     alloc: Global,
     words: &[String],

@@ -2,7 +2,7 @@
 
 ghost use Rattle.world_io.specs.Outside.{SinkState};
 ghost use Rattle.command_words.specs.Limits.{IsWithinLimits};
-ghost use Rattle.spechint_commands.specs.Run.{ImageTo, TraceGoes, TraceTo};
+ghost use Rattle.spechint_commands.specs.Run.{TraceTo};
 
 use crate::image::read_file;
 use crate::opening::{are_bytes, open_image};
@@ -13,15 +13,15 @@ use std::alloc::Global;
 use world_io::{Sink, Store};
 
 /// Reads a file, opens it as a rewritten program, and makes the moves of the pattern, with the lines of
-/// what they tell on standard output.
-fn trace_moves<D: Store, O: Sink>(
+/// what they tell on standard output, and of first uses where they are asked for.
+pub fn trace<D: Store, O: Sink>(
     alloc: Global,
     request: &Request,
     store: &mut D,
     out: &mut O,
 ) -> Status
     requires { IsWithinLimits request.now }
-    ensures { (err : SinkState) → ImageTo (TraceGoes request.now) request.now result
+    ensures { (err : SinkState) → TraceTo request.now result
         (record { store = D.state store.old; out = O.state out.old; err = err })
         (record { store = D.state store.new; out = O.state out.new; err = err }) }
 {
@@ -40,27 +40,9 @@ fn trace_moves<D: Store, O: Sink>(
         &mut runner,
         &options.pattern,
         options.turns,
+        options.uses,
         store,
         out,
     );
     status_of(ending)
-}
-
-/// Traces the run of a file. The lines of uses aren't built yet.
-pub fn trace<D: Store, O: Sink>(
-    alloc: Global,
-    request: &Request,
-    store: &mut D,
-    out: &mut O,
-) -> Status
-    requires { IsWithinLimits request.now }
-    ensures { (err : SinkState) → TraceTo request.now result
-        (record { store = D.state store.old; out = O.state out.old; err = err })
-        (record { store = D.state store.new; out = O.state out.new; err = err }) }
-{
-    if request.options.uses {
-        Status::NotBuilt
-    } else {
-        trace_moves(alloc, request, store, out)
-    }
 }

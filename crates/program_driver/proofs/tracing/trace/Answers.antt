@@ -19,8 +19,8 @@ loop-step-init g c =
     record {
       few = omega (arith, c.requires.few, count);
       log =
-          moves-TraceProgress c.args.pattern.now c.args.turns c.args.runner.now c.args.runner.now (g.D.Store.state c.args.store.now) (g.O.Sink.state c.args.out.now) (g.D.Store.state c.args.store.now) (g.O.Sink.state c.args.out.now) (pattern_moves c.args.pattern.now c.args.turns) c.new-schedule.result (sym {b = pattern_moves c.args.pattern.now c.args.turns} c.new-schedule.ensures)
-          (first-TraceProgress c.args.pattern.now c.args.turns c.args.runner.now (g.D.Store.state c.args.store.now) (g.O.Sink.state c.args.out.now));
+          moves-TraceProgress c.args.with_uses c.args.pattern.now c.args.turns c.new-uses.result c.args.runner.now c.args.runner.now (g.D.Store.state c.args.store.now) (g.O.Sink.state c.args.out.now) (g.D.Store.state c.args.store.now) (g.O.Sink.state c.args.out.now) (pattern_moves c.args.pattern.now c.args.turns) c.new-schedule.result (sym {b = pattern_moves c.args.pattern.now c.args.turns} c.new-schedule.ensures)
+          (first-TraceProgress c.args.with_uses c.args.pattern.now c.args.turns c.new-uses.result c.args.runner.now (g.D.Store.state c.args.store.now) (g.O.Sink.state c.args.out.now) c.new-uses.ensures.on c.new-uses.ensures.keeps);
       later = λ err. same-later _;
       on = λ on. on;
     }
@@ -30,21 +30,21 @@ loop-step-preserved g c =
     let count : length c.loop-step.schedule ≡ c.in-Some.count + length c.next_stretch.new.self = ap length c.in-Some.ensures.moves ∙ stretch-length c.in-Some.count c.in-Some.step c.next_stretch.new.self in
     record {
       few = omega (arith, c.loop-step.invariant.few, c.trace_stretch.ensures.moves, count);
-      log = c.in_default-trace_stretch.ensures.goes c.args.pattern.now c.args.turns c.next_stretch.new.self c.args.runner.now (g.D.Store.state c.args.store.now) (g.O.Sink.state c.args.out.now) (moves-TraceProgress c.args.pattern.now c.args.turns c.args.runner.now c.loop-step.runner (g.D.Store.state c.args.store.now) (g.O.Sink.state c.args.out.now) (g.D.Store.state c.loop-step.store) (g.O.Sink.state c.loop-step.out) c.loop-step.schedule (replicate c.in-Some.count c.in-Some.step ++ c.next_stretch.new.self) c.in-Some.ensures.moves c.loop-step.invariant.log);
+      log = c.in_default-trace_stretch.ensures.goes c.args.with_uses c.args.pattern.now c.args.turns c.next_stretch.new.self c.args.runner.now (g.D.Store.state c.args.store.now) (g.O.Sink.state c.args.out.now) (moves-TraceProgress c.args.with_uses c.args.pattern.now c.args.turns c.loop-step.uses c.args.runner.now c.loop-step.runner (g.D.Store.state c.args.store.now) (g.O.Sink.state c.args.out.now) (g.D.Store.state c.loop-step.store) (g.O.Sink.state c.loop-step.out) c.loop-step.schedule (replicate c.in-Some.count c.in-Some.step ++ c.next_stretch.new.self) c.in-Some.ensures.moves c.loop-step.invariant.log);
       later = λ err. later-IsLater _ _ _ (c.loop-step.invariant.later err) (c.trace_stretch.ensures.later err);
       on = λ on. c.in_default-trace_stretch.ensures.goes_on (c.loop-step.invariant.on on) refl;
     }
 
 pub returns-in-Some-trace_stretch-clause-drives : goal.returns-in-Some-trace_stretch-clause-drives
 returns-in-Some-trace_stretch-clause-drives g c err =
-    c.in-Some-trace_stretch.ensures.goes c.args.pattern.now c.args.turns c.next_stretch.new.self c.args.runner.now (g.D.Store.state c.args.store.now) (g.O.Sink.state c.args.out.now) (moves-TraceProgress c.args.pattern.now c.args.turns c.args.runner.now c.loop-step.runner (g.D.Store.state c.args.store.now) (g.O.Sink.state c.args.out.now) (g.D.Store.state c.loop-step.store) (g.O.Sink.state c.loop-step.out) c.loop-step.schedule (replicate c.in-Some.count c.in-Some.step ++ c.next_stretch.new.self) c.in-Some.ensures.moves c.loop-step.invariant.log) err
+    c.in-Some-trace_stretch.ensures.goes c.args.with_uses c.args.pattern.now c.args.turns c.next_stretch.new.self c.args.runner.now (g.D.Store.state c.args.store.now) (g.O.Sink.state c.args.out.now) (moves-TraceProgress c.args.with_uses c.args.pattern.now c.args.turns c.loop-step.uses c.args.runner.now c.loop-step.runner (g.D.Store.state c.args.store.now) (g.O.Sink.state c.args.out.now) (g.D.Store.state c.loop-step.store) (g.O.Sink.state c.loop-step.out) c.loop-step.schedule (replicate c.in-Some.count c.in-Some.step ++ c.next_stretch.new.self) c.in-Some.ensures.moves c.loop-step.invariant.log) err
 
 pub returns-clause-drives : goal.returns-clause-drives
 returns-clause-drives g c err =
-    subst (λ ending. Drives (TracesTo c.args.pattern.now c.args.turns ending) c.args.runner.now c.loop-step.runner (with_err err (g.D.Store.state c.args.store.now) (g.O.Sink.state c.args.out.now)) (with_err err (g.D.Store.state c.loop-step.store) (g.O.Sink.state c.put_made-answer.new.sink))) (sym c.ending_with.ensures)
-    (over-Drives c.args.pattern.now c.args.turns c.args.runner.now c.loop-step.runner (g.D.Store.state c.args.store.now) (g.D.Store.state c.loop-step.store)
+    subst (λ ending. Drives (TracesTo c.args.with_uses c.args.pattern.now c.args.turns ending) c.args.runner.now c.loop-step.runner (with_err err (g.D.Store.state c.args.store.now) (g.O.Sink.state c.args.out.now)) (with_err err (g.D.Store.state c.loop-step.store) (g.O.Sink.state c.put_made-answer.new.sink))) (sym c.ending_with.ensures)
+    (over-Drives c.args.with_uses c.args.pattern.now c.args.turns c.loop-step.uses c.args.runner.now c.loop-step.runner (g.D.Store.state c.args.store.now) (g.D.Store.state c.loop-step.store)
     (g.O.Sink.state c.args.out.now) (g.O.Sink.state c.loop-step.out) (g.O.Sink.state c.put_made-answer.new.sink) err c.own_done-own.result c.shadow_done-shadow.result c.put_made-answer.result c.requires.pattern
-    (moves-TraceProgress c.args.pattern.now c.args.turns c.args.runner.now c.loop-step.runner (g.D.Store.state c.args.store.now) (g.O.Sink.state c.args.out.now) (g.D.Store.state c.loop-step.store) (g.O.Sink.state c.loop-step.out) c.loop-step.schedule [] c.in_default.ensures.moves c.loop-step.invariant.log)
+    (moves-TraceProgress c.args.with_uses c.args.pattern.now c.args.turns c.loop-step.uses c.args.runner.now c.loop-step.runner (g.D.Store.state c.args.store.now) (g.O.Sink.state c.args.out.now) (g.D.Store.state c.loop-step.store) (g.O.Sink.state c.loop-step.out) c.loop-step.schedule [] c.in_default.ensures.moves c.loop-step.invariant.log)
     c.own_done-own.ensures c.shadow_done-shadow.ensures (c.put_made-answer.ensures (turns_line_of c.own_done-own.result c.shadow_done-shadow.result) c.turns_line.ensures))
 
 pub returns-in-Some-trace_stretch-clause-later : goal.returns-in-Some-trace_stretch-clause-later

@@ -1,0 +1,267 @@
+//! The first uses along a trace.
+
+ghost use Rattle.std.specs.Prelude.{◌≡◌, ℕ, suc, ◌&&◌, ◌++◌, ◌∷◌, [], false, true, Some, is_some, IfSome, IfOk, OnOk, OnErr};
+ghost use Rattle.std.specs.BTreeSet.{contains};
+ghost use Rattle.std.specs.Ordering.{nat_cmp};
+ghost use Rattle.spec_base.specs.Listed.{is_listed};
+ghost use Rattle.spec_base.specs.declared.note.Move.{Move};
+ghost use Rattle.run_model.specs.Run.{World, Run, Answer};
+ghost use Rattle.run_model.specs.Moves.{Moves, step, run};
+ghost use Rattle.run_model.specs.Restarts.{instr_action};
+ghost use Rattle.run_laws.specs.OwnLaws.{Accepted};
+ghost use Rattle.use_marks.specs.Along.{AreMarksOf, numbers_of, numbers_then, completes_first_use, has_restarted, filled_by, own_instr, tells_fill};
+ghost use Rattle.use_marks.specs.Marked.{marks_of};
+ghost use Rattle.run_model.specs.Marks.{no_marks};
+ghost use Rattle.use_marks.specs.Passing.{read_mark};
+ghost use Rattle.runner.specs.Shows.{Shows};
+ghost use Rattle.program_driver.specs.Uses.{HasUses, KeepsUses, IsAhead, StandsIf, is_fill};
+
+use file_calls::PlannedCall;
+use hart_step::Hart;
+use runner::Runner;
+use runner_parts::{both, plan_of_own};
+use rv_decode::Instr;
+use spec_base::{NoMemory, Note, View};
+use std::alloc::Global;
+use std::collections::BTreeSet;
+use use_marks::{Marks, ReadMark};
+
+/// What is kept along a trace to tell the first use of each run from a restart: the marks, whether no
+/// instruction was a use, and of each read that the shadow filled how many instructions come before it.
+#[derive(Drop)]
+pub(crate) struct UseTrace {
+    on: bool,
+    marks: Marks,
+    filled: BTreeSet<u64>,
+    unused: bool,
+}
+
+/// The own hart before a move, the instruction that it would complete, and what read that is.
+#[derive(Clone, Copy, Debug)]
+pub(crate) struct NextInstr {
+    hart: Hart,
+    instr: Option<Instr>,
+    read: ReadMark,
+}
+
+/// The counts before a move, and where the own hart stands if the run from a restart is followed.
+#[derive(Clone, Copy, Debug)]
+pub(crate) struct Ahead {
+    own: u64,
+    shadow: u64,
+    restarts: u64,
+    next: Option<NextInstr>,
+}
+
+/// The instruction that the own hart would complete: the call in its registers while it is in the
+/// stub, else that at its pc.
+fn own_instr(runner: &Runner) -> Option<Instr>
+    ensures { (w : World) (r : Run) → Accepted w → Shows runner.now w r → result ≡ own_instr w r }
+{
+    let own = runner.own();
+    match own.view() {
+        View::Program => runner.mem().instr_at(View::Program, own.pc()),
+        View::Stub => Some(Instr::Ecall),
+        // The own hart has no other view.
+        View::Plain | View::Shadow => None,
+    }
+}
+
+/// Whether a note tells a fill.
+fn is_fill(note: &Note) -> bool
+    ensures { result ≡ is_fill note.now }
+{
+    match note {
+        Note::Fill(_) => true,
+        _ => false,
+    }
+}
+
+/// Whether one of these notes tells a fill.
+fn tells_fill(notes: &[Note]) -> bool
+    ensures { result ≡ tells_fill notes.now }
+{
+    for note in notes {
+        if is_fill(note) {
+            return true;
+        }
+    }
+    false
+}
+
+impl UseTrace {
+    /// What is kept at the start, where uses are told or not.
+    pub(crate) fn new(alloc: Global, on: bool) -> UseTrace
+        ensures on { result.on ≡ on }
+        ensures keeps { (w : World) → KeepsUses w [] result }
+    {
+        UseTrace {
+            on,
+            marks: Marks::new(alloc),
+            filled: BTreeSet::new(alloc),
+            unused: true,
+        }
+    }
+
+    // What the call in the own hart's registers reads.
+    fn call_read(&self, runner: &Runner) -> ReadMark
+        ensures { (w : World) (r : Run) → Shows runner.now w r → ((n : ℕ) → contains nat_cmp self.now.filled n ≡ is_listed r.since.filled (suc n))
+            → result ≡ read_mark (is_listed r.since.filled (suc r.since.own)) (instr_action w.image.layout r.own (Some Instr.Ecall)) }
+    {
+        let plan = plan_of_own(runner.own(), runner.own_files(), runner.mem());
+        let PlannedCall::Read(spot, address) = plan else {
+            return ReadMark::None;
+        };
+        let count = spot.count;
+        if self.filled.contains(&runner.own_since()) {
+            ReadMark::Filled { address, count }
+        } else {
+            ReadMark::Left { address, count }
+        }
+    }
+
+    // What an instruction that the own hart would complete reads.
+    fn instr_read(&self, runner: &Runner, instr: &Instr) -> ReadMark
+        ensures { (w : World) (r : Run) → Shows runner.now w r → ((n : ℕ) → contains nat_cmp self.now.filled n ≡ is_listed r.since.filled (suc n))
+            → result ≡ read_mark (is_listed r.since.filled (suc r.since.own)) (instr_action w.image.layout r.own (Some instr.now)) }
+    {
+        match instr {
+            Instr::Ecall => self.call_read(runner),
+            _ => ReadMark::None,
+        }
+    }
+
+    // The same, if there is one.
+    fn next_read(&self, runner: &Runner, instr: &Option<Instr>) -> ReadMark
+        ensures { (w : World) (r : Run) → Shows runner.now w r → ((n : ℕ) → contains nat_cmp self.now.filled n ≡ is_listed r.since.filled (suc n))
+            → result ≡ read_mark (is_listed r.since.filled (suc r.since.own)) (instr_action w.image.layout r.own instr.now) }
+    {
+        match instr {
+            Some(instr) => self.instr_read(runner, instr),
+            None => ReadMark::None,
+        }
+    }
+
+    // Where the own hart stands, if the run from a restart is followed.
+    fn next_instr(&self, runner: &Runner) -> Option<NextInstr>
+        ensures { (w : World) (ms : Moves) → Accepted w → Shows runner.now w (run w ms) → KeepsUses w ms self.now → StandsIf w (run w ms) result }
+    {
+        if runner.restarts() == 0 {
+            return None;
+        }
+        if !runner.whole() {
+            return None;
+        }
+        let instr = own_instr(runner);
+        Some(NextInstr {
+            hart: *runner.own(),
+            instr,
+            read: self.next_read(runner, &instr),
+        })
+    }
+
+    /// What is to be known before a move, where uses are told.
+    pub(crate) fn look(&self, runner: &Runner) -> Option<Ahead>
+        ensures asked { is_some result ≡ self.now.on }
+        ensures ahead { (w : World) (ms : Moves) → Accepted w → Shows runner.now w (run w ms) → HasUses w ms self.now → IfSome result (λ a. IsAhead w (run w ms) a) }
+    {
+        if !self.on {
+            return None;
+        }
+        Some(Ahead {
+            own: runner.own_done(),
+            shadow: runner.shadow_done(),
+            restarts: runner.restarts(),
+            next: self.next_instr(runner),
+        })
+    }
+
+    // Takes the marks past the instruction that the own hart completed in a move, if it did, and tells
+    // whether that is the first use.
+    fn pass(&mut self, ahead: &Ahead, runner: &Runner) -> Result<bool, NoMemory>
+        ensures first { IfOk result (λ first. (w : World) (ms : Moves) (m : Move) (x : Answer) → Accepted w → IsAhead w (run w ms) ahead.now → Shows runner.now w (step w (run w ms) (m, x)) →
+            AreMarksOf w (run w ms) (numbers_of w ms) (marks_of self.old.marks) self.old.unused → first ≡ completes_first_use w (numbers_of w ms) (run w ms) (step w (run w ms) (m, x))) }
+        ensures marks { OnOk result ((w : World) (ms : Moves) (m : Move) (x : Answer) → Accepted w → IsAhead w (run w ms) ahead.now → Shows runner.now w (step w (run w ms) (m, x)) →
+            AreMarksOf w (run w ms) (numbers_of w ms) (marks_of self.old.marks) self.old.unused → has_restarted (run w ms) (step w (run w ms) (m, x)) ≡ false →
+            AreMarksOf w (step w (run w ms) (m, x)) (numbers_then (numbers_of w ms) (run w ms) (step w (run w ms) (m, x))) (marks_of self.new.marks) self.new.unused) }
+        ensures on { self.new.on ≡ self.old.on }
+        ensures filled { self.new.filled ≡ self.old.filled }
+    {
+        if runner.own_done() <= ahead.own {
+            return Ok(false);
+        }
+        let Some(next) = &ahead.next else {
+            return Ok(false);
+        };
+        let Some(instr) = &next.instr else {
+            return Ok(false);
+        };
+        let used = self.marks.pass(instr, &next.hart, runner.mem(), next.read)?;
+        let first = both(self.unused, used);
+        self.unused = both(self.unused, !used);
+        Ok(first)
+    }
+
+    // Takes over what a move tells of fills, before which the shadow had arrived so often.
+    fn learn_fill(&mut self, shadow: u64, runner: &Runner) -> Result<(), NoMemory>
+        ensures filled { OnOk result ((w : World) (r next : Run) → shadow ≡ r.since.shadow → Shows runner.now w next →
+            ((n : ℕ) → contains nat_cmp self.old.filled n ≡ is_listed r.since.filled (suc n)) →
+            (n : ℕ) → contains nat_cmp self.new.filled n ≡ is_listed (filled_by false (tells_fill next.notes) r) (suc n)) }
+        ensures on { self.new.on ≡ self.old.on }
+        ensures marks { self.new.marks ≡ self.old.marks }
+        ensures unused { self.new.unused ≡ self.old.unused }
+    {
+        if !tells_fill(runner.notes()) {
+            return Ok(());
+        }
+        self.filled.insert(shadow)?;
+        Ok(())
+    }
+
+    // Begins anew.
+    fn restart(&mut self)
+        ensures marks { marks_of self.new.marks ≡ no_marks }
+        ensures unused { self.new.unused ≡ true }
+        ensures filled { (n : ℕ) → contains nat_cmp self.new.filled n ≡ false }
+        ensures on { self.new.on ≡ self.old.on }
+    {
+        self.marks.restart();
+        self.filled.clear();
+        self.unused = true;
+    }
+
+    // Takes over a move that was made, and tells whether it completed the first use.
+    fn learn_made(&mut self, ahead: &Ahead, runner: &Runner) -> Result<bool, NoMemory>
+        ensures first { IfOk result (λ first. (w : World) (ms : Moves) (m : Move) (x : Answer) → Accepted w → IsAhead w (run w ms) ahead.now → Shows runner.now w (step w (run w ms) (m, x)) →
+            KeepsUses w ms self.old → first ≡ completes_first_use w (numbers_of w ms) (run w ms) (step w (run w ms) (m, x))) }
+        ensures keeps { OnOk result ((w : World) (ms : Moves) (m : Move) (x : Answer) → Accepted w → IsAhead w (run w ms) ahead.now → Shows runner.now w (step w (run w ms) (m, x)) →
+            KeepsUses w ms self.old → KeepsUses w (ms ++ (m, x) ∷ []) self.new) }
+        ensures on { self.new.on ≡ self.old.on }
+    {
+        let first = self.pass(ahead, runner)?;
+        if ahead.restarts < runner.restarts() {
+            self.restart();
+            return Ok(first);
+        }
+        self.learn_fill(ahead.shadow, runner)?;
+        Ok(first)
+    }
+
+    /// Takes over a move, before which this was to be known, and tells whether the own hart completed
+    /// the first use in it. `NoMemory` comes only where uses are told; then all that is kept is lost.
+    pub(crate) fn learn(&mut self, ahead: &Option<Ahead>, runner: &Runner) -> Result<bool, NoMemory>
+        requires { is_some ahead.now ≡ self.old.on }
+        ensures first { IfOk result (λ first. (w : World) (ms : Moves) (m : Move) (x : Answer) → Accepted w → IfSome ahead.now (λ a. IsAhead w (run w ms) a) → Shows runner.now w (step w (run w ms) (m, x)) →
+            HasUses w ms self.old → first ≡ (self.old.on && completes_first_use w (numbers_of w ms) (run w ms) (step w (run w ms) (m, x)))) }
+        ensures keeps { OnOk result ((w : World) (ms : Moves) (m : Move) (x : Answer) → Accepted w → IfSome ahead.now (λ a. IsAhead w (run w ms) a) → Shows runner.now w (step w (run w ms) (m, x)) →
+            HasUses w ms self.old → HasUses w (ms ++ (m, x) ∷ []) self.new) }
+        ensures on { self.new.on ≡ self.old.on }
+        ensures err { OnErr result (self.old.on ≡ true) }
+    {
+        let Some(ahead) = ahead else {
+            return Ok(false);
+        };
+        let first = self.learn_made(ahead, runner)?;
+        Ok(first)
+    }
+}
