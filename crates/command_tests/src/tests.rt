@@ -1,6 +1,5 @@
 //! The commands over a store and two sinks in memory.
 
-mod hostile;
 mod run;
 
 use elf_image::Refusal;
