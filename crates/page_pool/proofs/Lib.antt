@@ -1,2 +1,4 @@
 pub mod PageLemmas
 pub mod FrameLemmas
+mod StorageLemmas
+mod PoolLemmas

@@ -1,14 +1,8 @@
 -- Lemmas on pages.
-use Rattle.std.proofs.Common.{◌≡◌, ℕ, List, length, get_or, drop, replicate, ◌∙◌, ap, arith, inl, inr}
-use Rattle.std.proofs.lemmas.List.{length-replicate, get_or-replicate, get_or_past, take_at}
+use Rattle.std.proofs.Common.{◌≡◌, ℕ, length, get_or, replicate, arith, inl, inr}
+use Rattle.std.proofs.lemmas.List.{length-replicate, get_or-replicate, get_or_past}
 use Rattle.std.proofs.lemmas.Bool.{cases_lt}
-use Rattle.page_pool.specs.Pages.{blank_page, refilled}
-
--- ── Blank pages ──
-
-pub blank_from_replicate : (bytes : List ℕ) (n : ℕ) → bytes ≡ replicate n 0 → n ≡ 4096 → bytes ≡ blank_page
-unfolding blank_page
-blank_from_replicate bytes n e h = e ∙ ap (λ k. replicate k 0) h
+use Rattle.page_pool.specs.Pages.{blank_page}
 
 pub length-blank_page : length blank_page ≡ 4096
 unfolding blank_page
@@ -25,8 +19,3 @@ get_or-zeros n i =
 pub get_or-blank_page : (i : ℕ) → get_or blank_page i 0 ≡ 0
 unfolding blank_page
 get_or-blank_page i = get_or-zeros 4096 i
-
--- ── Pages written through a reference ──
-
-pub refilled-same : (page bytes : List ℕ) → length bytes ≡ length page → refilled page bytes ≡ bytes
-refilled-same page bytes e = take_at bytes (drop (length bytes) page) (length page) e

@@ -1,6 +1,7 @@
 //! Frames of 4,096 bytes from a pool of bounded size. Only `Pool::reserve` takes memory.
 #![tactic(auto)]
 
+mod chunk;
 mod page;
 mod pool;
 #[cfg(test)]

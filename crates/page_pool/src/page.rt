@@ -1,10 +1,9 @@
-//! A page: 4,096 bytes of its own on the heap.
+//! A page: 4,096 bytes.
 
-ghost use Rattle.std.specs.Prelude.{◌≡◌, ◌+◌, ◌≤◌, length, IfOk};
+ghost use Rattle.std.specs.Prelude.{◌≡◌, ◌+◌, ◌≤◌, length};
 ghost use Rattle.std.specs.Borrow.{Lends, sem, Array, u8 as byte};
-ghost use Rattle.page_pool.specs.Pages.{blank_page, overwritten, refilled};
+ghost use Rattle.page_pool.specs.Pages.{blank_page, overwritten};
 
-use std::alloc::{AllocError, Global};
 use std::marker::Model;
 
 /// How many bytes a page has.
@@ -13,57 +12,56 @@ pub const PAGE_BYTES: usize = 4096;
 /// A contract sees a page as its bytes.
 #[derive(Drop)]
 pub(crate) struct Page {
-    bytes: Vec<u8>,
+    bytes: [u8; PAGE_BYTES],
 }
 
 impl Model for Page {
-    ghost use Rattle.std.specs.Prelude.{◌≡◌, ℕ, List, length};
+    ghost use Rattle.std.specs.Prelude.{ℕ, List};
 
     ghost Value = { List ℕ };
 
-    ghost view = { λ p. p.bytes.items };
+    ghost view = { λ p. p.bytes };
+}
 
-    ghost invariant = { λ p. length p.bytes.items ≡ 4096 };
+/// The bytes of a page of zeros.
+#[tactic(auto, unfolding(crate::specs::Pages::blank_page))]
+pub(crate) fn blank_bytes() -> &'static [u8]
+    ensures value { result.now ≡ blank_page }
+    ensures len { length result.now ≡ 4096 }
+{
+    const BLANK: &[u8] = &[0; PAGE_BYTES];
+    BLANK
 }
 
 impl Page {
     ghost use Rattle.page_pool.specs.contracts.page.Page.{the_row};
 
     /// A page of zeros.
-    pub fn blank(alloc: Global) -> Result<Page, AllocError>
-        ensures { IfOk result (λ page. page ≡ blank_page) }
+    #[tactic(auto, unfolding(crate::specs::Pages::blank_page))]
+    pub fn blank() -> Page
+        ensures { result ≡ blank_page }
     {
-        Page::zeroed(alloc, PAGE_BYTES)
+        Page {
+            bytes: [0; PAGE_BYTES],
+        }
     }
 
-    // The size is a variable, so that no proof writes the page out.
-    #[tactic(auto, using(crate::proofs::PageLemmas::blank_from_replicate))]
-    fn zeroed(alloc: Global, size: usize) -> Result<Page, AllocError>
-        requires { size ≡ 4096 }
-        ensures { IfOk result (λ page. page ≡ blank_page) }
+    /// A page with the same bytes.
+    pub fn copied(&self) -> Page
+        ensures { result ≡ self.now }
     {
-        Ok(Page {
-            bytes: vec![in alloc; 0; size]?,
-        })
-    }
-
-    /// Sets each byte to zero.
-    #[tactic(auto, using(crate::proofs::PageLemmas::blank_from_replicate))]
-    pub fn clear(&mut self)
-        ensures { self.new ≡ blank_page }
-    {
-        self.bytes.fill(0);
+        Page { bytes: self.bytes }
     }
 
     pub fn bytes(&self) -> &[u8]
         ensures value { result.now ≡ self.now }
         ensures len { length result.now ≡ 4096 }
     {
-        self.bytes.as_slice()
+        &self.bytes
     }
 
     pub fn bytes_mut(&mut self) -> &mut [u8]
-        ensures* writes_back { sem 𝓛 (Lends the_row (Array byte 0) self.entry result (refilled self.old)) }
+        ensures* writes_back { sem 𝓛 (Lends the_row (Array byte 0) self.entry result (λ bytes. bytes)) }
         ensures value { result.now ≡ self.old }
         ensures len { length result.now ≡ 4096 }
     {

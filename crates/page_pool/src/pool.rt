@@ -1,12 +1,12 @@
 //! The pool and its frames.
 
-ghost use Rattle.std.specs.Prelude.{◌≡◌, ◌+◌, ◌<◌, ◌≤◌, ◌↔◌, length, vec_len, vec_capacity, Some, IsSome, is_some, count_by, IfSome, IfNone, OnOk, OnErr, Err};
+ghost use Rattle.std.specs.Prelude.{◌≡◌, ◌+◌, ◌-◌, ◌*◌, ◌<◌, ◌≤◌, ◌↔◌, false, true, length, vec_len, Some, IsSome, is_some, slice_index_or, slice_set, count_by, IfSome, IfNone, IfOk, OnOk, OnErr, Err, ℕ};
 ghost use Rattle.std.specs.Borrow.{Lends, sem, Array, u8 as byte};
-ghost use Rattle.page_pool.specs.Pages.{AreBlank, overwritten, refilled};
+ghost use Rattle.page_pool.specs.Pages.{overwritten, page_of};
 ghost use Rattle.page_pool.specs.Frames.{no_frames, reserved, with_bytes, frame_at, bytes_at, IsInUse, IsTaken, IsWritten, IsGiven, IsWithin};
+ghost use Rattle.page_pool.specs.Storage.{used_count};
 
-use crate::page::Page;
-use slab::Slab;
+use crate::chunk::{CHUNK_PAGES, Chunk};
 use std::alloc::{AllocError, Global};
 use std::marker::Model;
 
@@ -44,30 +44,36 @@ impl From<AllocError> for PoolFault {
     }
 }
 
-/// Frames of 4,096 bytes, of which no two share a byte. `reserve` takes all memory.
+/// Frames of 4,096 bytes, of which no two share a byte. `reserve` takes all memory; a frame's own is
+/// first touched when something is written to it.
 #[derive(Drop)]
 pub struct Pool {
     alloc: Global,
     most: usize,
-    // The pages of the frames in use.
-    used: Slab<Page>,
-    // The pages of no frame, all blank.
-    blank: Vec<Page>,
+    // Whether each frame that was ever taken is in use, by its number.
+    used: Vec<bool>,
+    // How many are.
+    in_use: usize,
+    // How many are in use or spare.
+    total: usize,
+    // Where the next frame that isn't in use is looked for first.
+    next: usize,
+    // The pages of all frames, 64 a chunk.
+    chunks: Vec<Chunk>,
 }
 
 impl Model for Pool {
-    ghost use Rattle.std.specs.Prelude.{◌+◌, ◌≤◌, vec_len};
+    ghost use Rattle.std.specs.Prelude.{◌-◌};
     ghost use Rattle.page_pool.specs.Frames.{Frames};
 
     ghost Value = { Frames };
 
-    ghost use Rattle.slab.specs.Slab.{slab_len};
-    ghost use Rattle.page_pool.specs.Storage.{IsSound};
+    ghost use Rattle.page_pool.specs.Storage.{IsSound, frames_from};
 
     ghost view = { λ p. record {
-      frames = p.used.slots;
-      in_use = slab_len p.used;
-      spare = vec_len p.blank;
+      frames = frames_from p.chunks.items 0 p.used.items;
+      in_use = p.in_use;
+      spare = p.total - p.in_use;
       most = p.most;
     } };
 
@@ -84,8 +90,11 @@ impl Pool {
         Pool {
             alloc,
             most,
-            used: Slab::new(alloc),
-            blank: Vec::new(alloc),
+            used: Vec::new(alloc),
+            in_use: 0,
+            total: 0,
+            next: 0,
+            chunks: Vec::new(alloc),
         }
     }
 
@@ -94,7 +103,7 @@ impl Pool {
         ensures value { result ≡ self.now.spare }
         ensures within { IsWithin self.now }
     {
-        self.blank.len()
+        self.total - self.in_use
     }
 
     /// How many frames are in use.
@@ -103,7 +112,7 @@ impl Pool {
         ensures counted { result ≡ count_by is_some self.now.frames }
         ensures within { IsWithin self.now }
     {
-        self.used.len()
+        self.in_use
     }
 
     /// Sees to it that at least `n` frames are spare.
@@ -112,17 +121,16 @@ impl Pool {
         ensures full { (result ≡ Err PoolFault.Full) ↔ (self.old.most < self.old.in_use + n) }
         ensures refused { OnErr result (self.new ≡ self.old) }
     {
-        let in_use = self.used.len();
-        if n > self.most - in_use {
+        if n > self.most - self.in_use {
             return Err(PoolFault::Full);
         }
-        let spare = self.blank.len();
-        if n <= spare {
+        let count = self.in_use + n;
+        if count <= self.total {
             return Ok(());
         }
-        self.used.reserve(n)?;
-        self.blank.reserve(in_use + n - spare)?;
-        add_blank(self.alloc, &mut self.blank, n)?;
+        self.used.reserve(count - self.used.len())?;
+        add_chunks(self.alloc, &mut self.chunks, count / CHUNK_PAGES + 1)?;
+        self.total = count;
         Ok(())
     }
 
@@ -132,10 +140,20 @@ impl Pool {
         ensures taken { IfSome result (λ frame. IsTaken self.old self.new frame) }
         ensures none { IfNone result (self.new ≡ self.old) }
     {
-        let page = self.blank.pop()?;
-        Some(Frame {
-            number: self.used.insert_reserved(page),
-        })
+        if self.in_use == self.total {
+            return None;
+        }
+        let number = if self.in_use == self.used.len() {
+            self.used.push_reserved(true);
+            self.in_use
+        } else {
+            let number = free_number(&self.used, self.next)?;
+            self.used[number] = true;
+            number
+        };
+        self.in_use += 1;
+        self.next = number + 1;
+        Some(Frame { number })
     }
 
     /// Takes a frame out of use, which is then spare.
@@ -143,9 +161,11 @@ impl Pool {
         requires { IsInUse self.old frame }
         ensures { IsGiven self.old self.new frame }
     {
-        let mut page = self.used.remove(frame.number);
-        page.clear();
-        self.blank.push_reserved(page);
+        let number = frame.number;
+        self.chunks[number / CHUNK_PAGES].clear(number % CHUNK_PAGES);
+        self.used[number] = false;
+        self.in_use -= 1;
+        self.next = number;
     }
 
     /// The 4,096 bytes of a frame.
@@ -155,18 +175,18 @@ impl Pool {
         ensures lookup { frame_at self.now frame.now ≡ Some result.now }
         ensures len { length result.now ≡ 4096 }
     {
-        self.used[frame.number].bytes()
+        self.chunks[frame.number / CHUNK_PAGES].bytes(frame.number % CHUNK_PAGES)
     }
 
     /// The 4,096 bytes of a frame, for writing.
     pub fn bytes_mut(&mut self, frame: &Frame) -> &mut [u8]
         requires { IsInUse self.old frame.now }
-        ensures* writes_back { sem 𝓛 (Lends the_row (Array byte 0) self.entry result (λ bytes. with_bytes self.old frame.now (refilled (bytes_at self.old frame.now) bytes))) }
+        ensures* writes_back { sem 𝓛 (Lends the_row (Array byte 0) self.entry result (with_bytes self.old frame.now)) }
         ensures value { result.now ≡ bytes_at self.old frame.now }
         ensures len { length result.now ≡ 4096 }
     {
-        let page = &mut self.used[frame.number];
-        page.bytes_mut()
+        let chunk = &mut self.chunks[frame.number / CHUNK_PAGES];
+        chunk.bytes_mut(frame.number % CHUNK_PAGES)
     }
 
     /// Writes bytes over those of a frame from `at` on.
@@ -175,8 +195,7 @@ impl Pool {
         requires fits { at + length bytes.now ≤ 4096 }
         ensures { IsWritten self.old self.new frame.now (overwritten (bytes_at self.old frame.now) at bytes.now) }
     {
-        let page = &mut self.used[frame.number];
-        page.write(at, bytes);
+        self.chunks[frame.number / CHUNK_PAGES].write(frame.number % CHUNK_PAGES, at, bytes);
     }
 
     /// Copies the bytes of a frame to another.
@@ -185,34 +204,39 @@ impl Pool {
         requires to { IsInUse self.old to.now }
         ensures { IsWritten self.old self.new to.now (bytes_at self.old from.now) }
     {
-        if from.number == to.number {
-            return;
-        }
-        let mut page = self.used.remove(to.number);
-        page.write(0, self.used[from.number].bytes());
-        self.used.insert_reserved(page);
+        let page = self.chunks[from.number / CHUNK_PAGES].copied(from.number % CHUNK_PAGES);
+        self.chunks[to.number / CHUNK_PAGES].set(to.number % CHUNK_PAGES, page);
     }
 }
 
-// Adds blank pages up to so many, or leaves the list as it was where there is no memory.
-fn add_blank(alloc: Global, pages: &mut Vec<Page>, count: usize) -> Result<(), AllocError>
-    requires more { vec_len pages.old ≤ count }
-    requires room { count ≤ vec_capacity pages.old }
-    requires blank { AreBlank pages.old.items }
-    ensures ok { OnOk result (vec_len pages.new ≡ count) }
-    ensures err { OnErr result (vec_len pages.new ≡ vec_len pages.old) }
-    ensures blank { AreBlank pages.new.items }
-    ensures capacity { vec_capacity pages.new ≡ vec_capacity pages.old }
+// Adds chunks that nothing was written to, up to so many. Where memory is wanting, some of them.
+fn add_chunks(alloc: Global, chunks: &mut Vec<Chunk>, count: usize) -> Result<(), AllocError>
+    ensures ok { OnOk result (count ≤ vec_len chunks.new) }
+    ensures more { vec_len chunks.old ≤ vec_len chunks.new }
+    ensures same { (k : ℕ) → page_of chunks.new.items k ≡ page_of chunks.old.items k }
 {
-    let before = pages.len();
-    for _ in before..count {
-        match Page::blank(alloc) {
-            Ok(page) => pages.push_reserved(page),
-            Err(refused) => {
-                pages.truncate(before);
-                return Err(refused);
-            }
-        }
+    for _ in chunks.len()..count {
+        let chunk = Chunk::new(alloc)?;
+        chunks.push(chunk)?;
     }
     Ok(())
+}
+
+// The number of a frame that isn't in use: `first`, or else the least. None where each is in use.
+#[tactic(auto, using(crate::proofs::StorageLemmas::used_count_next, crate::proofs::StorageLemmas::used_count_all))]
+fn free_number(used: &[bool], first: usize) -> Option<usize>
+    ensures some { IfSome result (λ k. slice_index_or used.now k true ≡ false) }
+    ensures none { IfNone result (used_count used.now ≡ length used.now) }
+{
+    if first < used.len() && !used[first] {
+        return Some(first);
+    }
+    let mut number = 0;
+    while number < used.len() {
+        if !used[number] {
+            return Some(number);
+        }
+        number += 1;
+    }
+    None
 }
