@@ -3,3 +3,5 @@ mod Spares
 mod Starved
 mod Stores
 mod Views
+pub mod ShadowViews
+mod Strides

@@ -6,7 +6,6 @@ use Rattle.rv_model.specs.Effect.{Effect, Next, Stored, Trapped, Called, Gated}
 use Rattle.rv_model.specs.Space.{Space}
 use Rattle.hart_step.specs.Core.{Core}
 use Rattle.hart_step.specs.Step.{Outcome, outcome, stepped, store_outcome, gate_outcome}
-use Rattle.hart_step.specs.declared.event.Event.{Event}
 use Rattle.hart_step.specs.declared.event.Event.TheVariants as event
 
 module _ (c : Core) (s : Space) where

@@ -2,3 +2,5 @@ pub mod Core
 pub mod Step
 pub mod Flows
 pub mod Steps
+pub mod ShadowSteps
+pub mod Strides

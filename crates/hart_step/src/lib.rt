@@ -7,6 +7,7 @@ mod flow;
 mod gates;
 mod hart;
 mod running;
+mod shadow;
 mod stepping;
 #[cfg(test)]
 mod tests;
@@ -16,4 +17,5 @@ mod vectors;
 pub use event::Event;
 pub use hart::Hart;
 pub use running::steps;
+pub use shadow::shadow_steps;
 pub use stepping::step;

@@ -3,7 +3,7 @@ use Rattle.hart_mem.specs.Held.{space_of, lacks_frame}
 use Rattle.hart_step.specs.Core.{core_of}
 use Rattle.hart_step.specs.Step.{effect_here}
 use Rattle.hart_step.specs.Flows.{core_at}
-use Rattle.hart_step.specs.Steps.{Completes, none, more, StepsTo}
+use Rattle.hart_step.specs.Steps.{Completes, none, more}
 use Rattle.hart_mem.proofs.MemLemmas.{UsesSpare-then}
 use Rattle.hart_step.proofs.Spares.{unused}
 use Rattle.hart_step.proofs.Views.{view-kept}

@@ -1,7 +1,7 @@
 use Rattle.std.proofs.Common.{ap, sym, ◌∙◌}
 use Rattle.hart_mem.specs.Held.{space_of}
 use Rattle.hart_step.specs.Core.{core_of}
-use Rattle.hart_step.specs.Step.{Outcome, outcome, effect_of}
+use Rattle.hart_step.specs.Step.{Outcome, effect_of}
 use Rattle.hart_step.specs.Flows.{core_at, flow_outcome}
 use Rattle.hart_step.specs.declared.flow.Flow.{Flow}
 use Rattle.hart_step.proofs.Starved.{starved, never_starved}
