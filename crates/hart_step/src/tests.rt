@@ -1,7 +1,7 @@
 //! Instructions against vectors from outside, and each gate word in each view.
 
 use crate::vectors::{BRANCHES, OPERANDS, RESULTS};
-use crate::{Event, Hart, step, steps};
+use crate::{Event, Hart, shadow_steps, step, steps};
 use hart_mem::Mem;
 use spec_base::{Layout, NoMemory, Park, Reg, STUB_START, Trap, Version, View};
 use std::alloc::Global;
@@ -451,5 +451,59 @@ fn goes_on_past_the_end(rt: HostRuntime) -> Result<(), Fail> {
             Event::Trap(Trap::FetchOut)
         )
     );
+    Ok(())
+}
+
+// A block of a shadow, whose word 6 stores and whose word 12 is illegal, and the guard block. All other words
+// are addi x5, x5, 1.
+fn memory_of_a_block(alloc: Global) -> Result<Mem, NoMemory> {
+    let layout = Layout {
+        text_start: TEXT,
+        text_end: TEXT + 4,
+        regions: 1,
+        version: Version::One,
+    };
+    let mut shadow = [0x0012_8293; 32];
+    // sd x5, -8(x0)
+    shadow[6] = 0xFE50_3C23;
+    shadow[12] = 0;
+    let mut mem = Mem::new(alloc, layout, vec![in alloc; 0; 1]?)?;
+    mem.set_code(
+        Vec::from_array(alloc, shadow)?,
+        vec![in alloc; 0; 282]?,
+        vec![in alloc; 0; 71]?,
+    )?;
+    Ok(mem)
+}
+
+// Where to begin in the blocks, the most steps, how many complete, what is told then, and where the hart is.
+const LOOKS: [(u64, u64, u64, Event, u64); 7] = [
+    (0, 0, 0, Event::Done, 0),
+    (0, 9, 1, Event::Done, 4),
+    (4, 5, 5, Event::Done, 24),
+    (4, 9, 6, Event::Done, 28),
+    (28, 3, 3, Event::Done, 40),
+    (40, 9, 2, ILLEGAL, 48),
+    (56, 9, 3, Event::Done, 68),
+];
+
+// The first row whose steps end otherwise.
+fn first_wrong_look(mem: &mut Mem) -> Option<usize> {
+    for (i, (offset, most, completed, told, after)) in LOOKS.iter().enumerate() {
+        let start = start_of(View::Shadow);
+        let mut hart = Hart::new(start.wrapping_add(*offset), View::Shadow);
+        if shadow_steps(&mut hart, mem, *most) != (*completed, *told)
+            || hart.pc() != start.wrapping_add(*after)
+        {
+            return Some(i);
+        }
+    }
+    None
+}
+
+#[test]
+fn ends_where_a_look_is_due(rt: HostRuntime) -> Result<(), Fail> {
+    let mut mem = memory_of_a_block(rt.alloc())?;
+    assert_eq!(rt; first_wrong_look(&mut mem), None);
     Ok(())
 }
