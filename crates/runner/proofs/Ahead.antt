@@ -1,6 +1,6 @@
 -- A word of the shadow, before its move is counted, and the run behind many of them.
-use Rattle.std.proofs.Common.{◌≡◌, ◌≤◌, ◌+◌, ℕ, zero, suc, Bool, true, false, max, Option, Some, None, refl, sym, ap, subst, ◌∙◌, arith}
-use Rattle.std.specs.Prelude.{◌%◌, ◌==◌}
+use Rattle.std.proofs.Common.{◌≡◌, ◌≤◌, ◌+◌, inl, inr, ℕ, zero, suc, Bool, true, false, max, Option, Some, None, refl, sym, ap, subst, ◌∙◌, arith}
+use Rattle.std.specs.Prelude.{◌%◌, ◌==◌, is_some}
 use Rattle.std.specs.Option.{option_map}
 use Rattle.spec_base.specs.Word.{plus_int}
 use Rattle.spec_base.specs.declared.machine.Trap.{Trap}
@@ -19,9 +19,9 @@ use Rattle.rv_model.specs.Rights.{Rights, rights_of}
 use Rattle.rv_model.specs.Effect.{effect, jump_if, branch_if, load_if, even, after}
 use Rattle.rv_model.specs.Space.{Space, sees, word_at, word_effect, effect_at}
 use Rattle.code_model.specs.Regions.{slots_in_use}
-use Rattle.run_model.specs.Run.{World, Run, Usual}
+use Rattle.run_model.specs.Run.{World, Run, RunEnd, Usual}
 use Rattle.run_model.specs.Moves.{begun, step, run_from}
-use Rattle.run_model.specs.ShadowMoves.{word_counted}
+use Rattle.run_model.specs.ShadowMoves.{word_counted, is_running}
 use Rattle.machine_laws.specs.OneMachine.{space_of_run}
 use Rattle.hart_mem.specs.Held.{Held, space_of}
 use Rattle.hart_step.specs.Core.{Core}
@@ -31,10 +31,10 @@ use Rattle.hart_step.specs.declared.event.Event.TheVariants as event
 use Rattle.word_laws.specs.Shown.{with_shadow}
 use Rattle.word_laws.specs.ShadowWords.{WordLeads}
 use Rattle.runner_parts.specs.Counts.{Counted}
-use Rattle.runner_parts.specs.Parts.{counts_of}
+use Rattle.runner_parts.specs.Parts.{counts_of, end_of_run}
 use Rattle.runner.specs.ShadowGoes.{AreCounted, is_store}
 use Rattle.runner.specs.Shows.{Shows}
-use Rattle.runner.specs.Stretches.{IsShadowWord, AreShadowWords, shadow_moves, MakesShadowWord, MakesShadowWords}
+use Rattle.runner.specs.Stretches.{IsShadowWord, AreShadowWords, shadow_moves, MakesShadowWord, MakesShadowWords, StopsShadow, is_key_or_call}
 use Rattle.runner.specs.declared.runner.Runner.{Runner}
 use Rattle.runner.proofs.Stretched.{equal-snoc}
 
@@ -122,6 +122,30 @@ left-same w r d t event.Stop nd np nt h = absurd h
 left-same w r d t event.Restart nd np nt h = absurd h
 left-same w r d t event.NoMemory nd np nt h = absurd h
 left-same w r d t event.Ecall nd np nt h = absurd h
+
+-- one of these is next
+pub left-stops :
+    (w : World) (r : Run) (d : Core) (t : Space) (e : Event) → (e ≡ event.Done → ⊥) → ((k : Park) → e ≡ event.Park k → ⊥) → ((x : Trap) → e ≡ event.Trap x → ⊥) → WordLeads e w (begun r) d t
+    → StopsShadow w r
+left-stops w r d t (event.Key rd) nd np nt h = inr (inr (ap is_key_or_call h.word))
+left-stops w r d t (event.Call u) nd np nt h = inr (inr (ap is_key_or_call h.word))
+left-stops w r d t event.Done nd np nt h = absurd (nd refl)
+left-stops w r d t (event.Park k) nd np nt h = absurd (np k refl)
+left-stops w r d t (event.Trap x) nd np nt h = absurd (nt x refl)
+left-stops w r d t event.Leave nd np nt h = absurd h
+left-stops w r d t event.Gate nd np nt h = absurd h
+left-stops w r d t event.Stop nd np nt h = absurd h
+left-stops w r d t event.Restart nd np nt h = absurd h
+left-stops w r d t event.NoMemory nd np nt h = absurd h
+left-stops w r d t event.Ecall nd np nt h = absurd h
+
+-- a run that has ended has no word
+pub ended-stops : (v : Runner) (w : World) (r : Run) → Shows v w r → is_some v.end ≡ true → StopsShadow w r
+ended-stops v w r h over = inl (λ e. let f : false ≡ true = sym (ap is_some (h.end ∙ ap (λ (o : Option RunEnd). option_map end_of_run o) e)) ∙ over in cc)
+
+-- nor has one whose shadow doesn't run
+pub idle-stops : (v : Runner) (w : World) (r : Run) → Shows v w r → is_running v.state ≡ false → StopsShadow w r
+idle-stops v w r h rests = inr (inl (λ runs. let e : true ≡ false = sym (ap is_running (h.shadow.state_is ∙ runs)) ∙ rests in cc))
 
 -- ---- many words
 

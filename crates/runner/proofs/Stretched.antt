@@ -1,9 +1,10 @@
 -- The run after words of the program that steps of the own hart completed.
-use Rattle.std.proofs.Common.{◌≡◌, ◌≢◌, ℕ, zero, suc, ◌+◌, ◌≤◌, Bool, true, false, ◌&&◌, ◌||◌, ◌==◌, nat_le, IsTrue, [], None, inl, inr, refl, sym, ap, subst, ◌∙◌, arith}
+use Rattle.std.proofs.Common.{◌≡◌, ◌≢◌, ℕ, zero, suc, ◌+◌, ◌≤◌, ◌<◌, ◌⊎◌, Bool, true, false, ◌&&◌, ◌||◌, ◌==◌, nat_le, IsTrue, [], Some, None, inl, inr, refl, sym, ap, subst, ◌∙◌, arith}
 use Rattle.std.specs.Prelude.{replicate}
 use Rattle.std.proofs.lemmas.Bool.Decides.{nat_tests}
+use Rattle.spec_base.specs.declared.machine.Trap.{Trap}
 use Rattle.spec_base.specs.declared.machine.View.{View}
-use Rattle.spec_base.specs.declared.machine.View.TheVariants.{Program}
+use Rattle.spec_base.specs.declared.machine.View.TheVariants.{Program, Stub}
 use Rattle.spec_base.specs.declared.note.Move.{Move}
 use Rattle.spec_base.specs.declared.note.Move.TheVariants.{O}
 use Rattle.rv_decode.specs.declared.instr.Instr.{Instr}
@@ -11,23 +12,23 @@ use Rattle.rv_decode.specs.declared.instr.Instr.TheVariants.{Hgate}
 use Rattle.rv_model.specs.Effect.{Effect, Next, Stored, Trapped, Called, Gated, gate_effect}
 use Rattle.rv_model.specs.Space.{Space}
 use Rattle.program_model.specs.PlainRun.{State}
-use Rattle.run_model.specs.Run.{World, Run, Answer, Usual}
+use Rattle.run_model.specs.Run.{World, Run, RunEnd, Traps, Answer, Usual}
 use Rattle.run_model.specs.OwnMoves.{stays_behind, own_in}
 use Rattle.run_model.specs.Moves.{begun, step, run_from}
 use Rattle.run_laws.specs.OwnLaws.{Accepted}
 use Rattle.machine_laws.specs.OneMachine.{space_of_run, IsOfView}
 use Rattle.machine_laws.proofs.Gates.{effects_of_view}
 use Rattle.hart_mem.specs.Held.{Held, lacks_frame}
-use Rattle.hart_step.specs.Core.{Core}
+use Rattle.hart_step.specs.Core.{Core, HeldCore}
 use Rattle.hart_step.specs.Step.{Outcome, outcome, stepped, store_outcome, gate_outcome, effect_here}
 use Rattle.hart_step.specs.Steps as steps
 use Rattle.hart_step.specs.declared.event.Event.{Event}
 use Rattle.hart_step.specs.declared.event.Event.TheVariants as event
 use Rattle.word_laws.specs.Shown.{ShowsOwn, with_own, is_own_view}
-use Rattle.word_laws.specs.OwnWords.{completed, gate_met, ProgramGoes}
+use Rattle.word_laws.specs.OwnWords.{completed, gate_met, trapped, ProgramGoes}
 use Rattle.word_laws.proofs.ProgramSteps.{program_words_lead}
 use Rattle.runner_parts.specs.Parts.{IsAtRest, own_side}
-use Rattle.runner.specs.Stretches.{IsInProgram, AreOwnWords, own_moves, words_done}
+use Rattle.runner.specs.Stretches.{IsInProgram, AreOwnWords, WantsPage, own_moves, words_done}
 use Rattle.runner.proofs.OwnMoves.{word-step}
 use Rattle.runner.proofs.Words.{and-false}
 
@@ -110,6 +111,35 @@ done-by lacks (Gated g) c s v e = done-gate g c s v e
 done-view : (lacks : ℕ → Bool) (c d : Core) (s t : Space) → c.view ≡ Program → outcome event.Done d t ≡ stepped lacks (effect_here c s) c s → d.view ≡ Program
 done-view lacks c d s t view so =
     ap (λ (o : Outcome). o.core.view) so ∙ done-by lacks (effect_here c s) c s (of-program c s view) (sym (ap (λ (o : Outcome). o.event) so)) ∙ view
+
+-- ---- a gate leaves it in the stub
+
+stub-store : (l : Bool) (c : Core) (s : Space) (a width v : ℕ) → (store_outcome l c s a width v).event ≡ event.Gate → ⊥
+stub-store true c s a width v e = (let told : event.NoMemory ≡ event.Gate = e in cc)
+stub-store false c s a width v e = (let told : event.Done ≡ event.Gate = e in cc)
+
+stub-gate : (gate : Instr) (c : Core) (s : Space) → gate_effect Program gate ≡ Gated gate → (gate_outcome gate c s).event ≡ event.Gate → (gate_outcome gate c s).core.view ≡ Stub
+stub-gate Hgate c s v e = refl
+stub-gate _ c s v e = absurd cc
+
+stub-by : (lacks : ℕ → Bool) (e : Effect) (c : Core) (s : Space) → IsOfView Program e → (stepped lacks e c s).event ≡ event.Gate → (stepped lacks e c s).core.view ≡ Stub
+stub-by lacks (Next rs pc) c s v e = absurd (let told : event.Done ≡ event.Gate = e in cc)
+stub-by lacks (Stored a width x) c s v e = absurd (stub-store (lacks a) c s a width x e)
+stub-by lacks (Trapped cause) c s v e = absurd (let told : event.Trap cause ≡ event.Gate = e in cc)
+stub-by lacks Called c s v e = absurd (let told : event.Ecall ≡ event.Gate = e in cc)
+stub-by lacks (Gated g) c s v e = stub-gate g c s v e
+
+stub-view : (lacks : ℕ → Bool) (c d : Core) (s t : Space) → c.view ≡ Program → outcome event.Gate d t ≡ stepped lacks (effect_here c s) c s → d.view ≡ Stub
+stub-view lacks c d s t view so =
+    ap (λ (o : Outcome). o.core.view) so ∙ stub-by lacks (effect_here c s) c s (of-program c s view) (sym (ap (λ (o : Outcome). o.event) so))
+
+-- a run that traps has ended
+trapped-ends : (q : Run) (cause : Trap) (d : Core) (t : Space) → (trapped (with_own q d t) cause d.pc).end ≢ None
+trapped-ends q cause d t e = (let over : Some (Traps cause d.pc) ≡ None = e in cc)
+
+-- of an equal hart and memory
+pub wants-as : (own : HeldCore) (mem : Held) (o : HeldCore) (m : Held) → o ≡ own → m ≡ mem → WantsPage own mem → WantsPage o m
+wants-as own mem o m e f h = subst (λ (x : HeldCore). WantsPage x m) (sym e) (subst (λ (x : Held). WantsPage own x) (sym f) h)
 
 -- ---- equal moves, one by one
 
@@ -245,6 +275,30 @@ module _ (w : World) (r : Run) (a : Accepted w) (in_program : IsInProgram r) (h 
 
   -- ---- and what stopped them
 
+  -- the next word ends the run, or wants a page
+  abbrev pub EndsOrWants : ℕ → (ℕ → Bool) → Core → Space → Type 0
+  EndsOrWants n lacks d t = ((step w (run_from w r (own_moves n)) (O, Usual)).end ≢ None) ⊎ ((stepped lacks (effect_here d t) d t).event ≡ event.NoMemory)
+
+  ends-or-wants : (n : ℕ) (c : Core) (s : Space) → Stands n c s → (lacks : ℕ → Bool) (told : Event) → told ≢ event.Done → told ≢ event.Gate → (d : Core) (t : Space)
+      → outcome told d t ≡ stepped lacks (effect_here c s) c s → EndsOrWants n lacks d t
+  ends-or-wants n c s stands lacks event.Done nd ng d t so = absurd (nd refl)
+  ends-or-wants n c s stands lacks event.Gate nd ng d t so = absurd (ng refl)
+  ends-or-wants n c s stands lacks event.NoMemory nd ng d t so =
+      let stays = still lacks event.NoMemory c d s t (stands-view n c s stands) nd ng so in
+      inr
+      (subst (λ (k : Core). (stepped lacks (effect_here k t) k t).event ≡ event.NoMemory) (sym stays.hart)
+      (subst (λ (x : Space). (stepped lacks (effect_here c x) c x).event ≡ event.NoMemory) (sym stays.memory) (sym (ap (λ (o : Outcome). o.event) so))))
+  ends-or-wants n c s stands lacks (event.Trap cause) nd ng d t so =
+      let goes : ProgramGoes (event.Trap cause) w (begun (q n c s stands)) d t = next-goes n c s stands lacks (event.Trap cause) (λ e. cc) d t so in
+      inl (subst (λ (x : Run). x.end ≢ None) (sym (next-step n c s stands ∙ goes.leads Usual)) (trapped-ends (begun (q n c s stands)) cause d t))
+  ends-or-wants n c s stands lacks event.Ecall nd ng d t so = absurd ((next-goes n c s stands lacks event.Ecall (λ e. cc) d t so).leads)
+  ends-or-wants n c s stands lacks event.Leave nd ng d t so = absurd ((next-goes n c s stands lacks event.Leave (λ e. cc) d t so).leads)
+  ends-or-wants n c s stands lacks (event.Call u) nd ng d t so = absurd ((next-goes n c s stands lacks (event.Call u) (λ e. cc) d t so).leads)
+  ends-or-wants n c s stands lacks (event.Key rd) nd ng d t so = absurd ((next-goes n c s stands lacks (event.Key rd) (λ e. cc) d t so).leads)
+  ends-or-wants n c s stands lacks event.Stop nd ng d t so = absurd ((next-goes n c s stands lacks event.Stop (λ e. cc) d t so).leads)
+  ends-or-wants n c s stands lacks event.Restart nd ng d t so = absurd ((next-goes n c s stands lacks event.Restart (λ e. cc) d t so).leads)
+  ends-or-wants n c s stands lacks (event.Park k) nd ng d t so = absurd ((next-goes n c s stands lacks (event.Park k) (λ e. cc) d t so).leads)
+
   -- a gate: one word more
   pub record Enters (n : ℕ) (d : Core) (t : Space) : Type 0 where
     pub words : AreOwnWords w (suc n) r
@@ -252,6 +306,7 @@ module _ (w : World) (r : Run) (a : Accepted w) (in_program : IsInProgram r) (h 
     pub here : Space
     pub is : run_from w r (own_moves (suc n)) ≡ gate_met (begun (words_done n (with_own r at here))) d t
     pub side : IsTrue (is_own_view d.view)
+    pub stub : d.view ≡ Stub
     pub space : t ≡ space_of_run w (with_own r d t)
 
   module _ (c : Core) (s : Space) (shows : ShowsOwn Program w r c s) (most n : ℕ) (told : Event) (lacks : ℕ → Bool) (d : Core) (t : Space) (to : steps.StepsTo most n told lacks c s d t) where
@@ -266,6 +321,14 @@ module _ (w : World) (r : Run) (a : Accepted w) (in_program : IsInProgram r) (h 
           | inr some ↦ (
               let stays = still lacks told to.at d to.here t (stands-view n to.at to.here came) some.1 ng some.2 in
               subst (λ (x : Space). Stands n d x) (sym stays.memory) (subst (λ (k : Core). Stands n k to.here) (sym stays.hart) came))
+        ]
+
+    -- where they didn't all complete
+    pub stopped-EndsOrWants : told ≢ event.Gate → n < most → EndsOrWants n lacks d t
+    stopped-EndsOrWants ng few =
+        elim to.ends [
+          | inl all ↦ absurd (omega (arith, few, all.0))
+          | inr some ↦ ends-or-wants n to.at to.here came lacks told some.1 ng d t some.2
         ]
 
     pub gate-Enters : told ≡ event.Gate → Enters n d t
@@ -284,6 +347,7 @@ module _ (w : World) (r : Run) (a : Accepted w) (in_program : IsInProgram r) (h 
                 here = to.here;
                 is = equal-snoc n w r (O, Usual) ∙ moved ∙ ap (λ (x : Run). gate_met (begun x) d t) came.is;
                 side = goes.side;
+                stub = stub-view lacks to.at d to.here t (stands-view n to.at to.here came) so;
                 space = goes.space ∙ ap (λ (x : Run). space_of_run w (with_own (begun x) d t)) came.is ∙ done-with n w r to.at d to.here t;
               })
         ]

@@ -1,12 +1,18 @@
 -- Words that one hart makes one after the other: those of the program, and those of the shadow (this project's own).
-use Rattle.std.specs.Prelude.{◌≡◌, ℕ, zero, suc, ◌+◌, false, ◌&&◌, [], replicate, None}
+use Rattle.std.specs.Prelude.{◌≡◌, ◌≢◌, ◌⊎◌, ℕ, zero, suc, ◌+◌, Bool, true, false, ◌&&◌, [], replicate, Option, Some, None}
 use Rattle.spec_base.specs.declared.machine.View.TheVariants.{Program}
 use Rattle.spec_base.specs.declared.note.Move.TheVariants.{O, S}
 use Rattle.spec_base.specs.declared.note.ShadowState.TheVariants.{Running}
+use Rattle.rv_decode.specs.declared.instr.Instr.{Instr}
+use Rattle.rv_decode.specs.declared.instr.Instr.TheVariants.{Hkey, Hcall}
 use Rattle.run_model.specs.Run.{World, Run, Usual}
 use Rattle.run_model.specs.OwnMoves.{stays_behind}
 use Rattle.run_model.specs.ShadowMoves.{fetch_shadow, is_call_word}
 use Rattle.run_model.specs.Moves.{Moves, step, run_from}
+use Rattle.hart_mem.specs.Held.{Held, lacks_frame, space_of}
+use Rattle.hart_step.specs.Core.{HeldCore, core_of}
+use Rattle.hart_step.specs.Step.{stepped, effect_here}
+use Rattle.hart_step.specs.declared.event.Event.TheVariants as event
 use Rattle.runner.specs.Shows.{Shows}
 use Rattle.runner.specs.declared.runner.Runner.{Runner}
 
@@ -31,6 +37,14 @@ AreOwnWords w (suc n) r = IsInProgram r × ((step w r (O, Usual)).end ≡ None) 
 pub record MakesOwnWords (n : ℕ) (u : Runner) (w : World) (r : Run) : Type 0 where
   pub words : AreOwnWords w n r
   pub shows : Shows u w (run_from w r (own_moves n))
+
+-- a step of the own hart stores into a page that has no frame, and none is spare
+abbrev pub WantsPage : HeldCore → Held → Type 0
+WantsPage own mem = (stepped (lacks_frame (core_of own).view mem) (effect_here (core_of own) (space_of mem)) (core_of own) (space_of mem)).event ≡ event.NoMemory
+
+-- there is no further one: the run has ended, or its own hart waits or is in the stub; or its next word traps, or wants a page
+abbrev pub StopsOwn : Runner → World → Run → Type 0
+StopsOwn u w r = (IsInProgram r → ⊥) ⊎ ((step w r (O, Usual)).end ≢ None) ⊎ WantsPage u.own u.mem
 
 -- ---- what is counted of them
 
@@ -72,3 +86,13 @@ pub record MakesShadowWords (n : ℕ) (u : Runner) (w : World) (r : Run) : Type 
 pub record MakesShadowWord (u : Runner) (w : World) (r : Run) : Type 0 where
   pub word : IsShadowWord w r
   pub shows : Shows u w (step w r (S, Usual))
+
+-- HKEY, HCALL 0 or HCALL 1
+abbrev pub is_key_or_call : Option Instr → Bool
+is_key_or_call (Some (Hkey rd)) = true
+is_key_or_call (Some (Hcall unhinted)) = true
+is_key_or_call _ = false
+
+-- there is no further one: the run has ended, or the shadow doesn't run, or its next word is an HKEY or an HCALL
+abbrev pub StopsShadow : World → Run → Type 0
+StopsShadow w r = (r.end ≢ None) ⊎ (r.shadow.state ≢ Running) ⊎ (is_key_or_call (fetch_shadow w r.shadow.pc) ≡ true)

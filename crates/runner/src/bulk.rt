@@ -3,11 +3,11 @@
 ghost use Rattle.std.specs.Prelude.{◌≡◌, ◌+◌, ◌≤◌, ◌<◌, ◌^◌, true, false};
 ghost use Rattle.program_model.specs.PlainRun.{State};
 ghost use Rattle.run_model.specs.Run.{World, Run};
-ghost use Rattle.run_model.specs.Moves.{begun};
+ghost use Rattle.run_model.specs.Moves.{begun, run_from};
 ghost use Rattle.run_laws.specs.OwnLaws.{Accepted};
 ghost use Rattle.runner_parts.specs.Parts.{IsAtRest, own_side};
 ghost use Rattle.runner.specs.Shows.{Shows};
-ghost use Rattle.runner.specs.Stretches.{IsInProgram, MakesOwnWords, words_done};
+ghost use Rattle.runner.specs.Stretches.{IsInProgram, MakesOwnWords, StopsOwn, own_moves, words_done};
 
 use crate::runner::Runner;
 use hart_step::{Event, steps};
@@ -16,7 +16,8 @@ use spec_base::View;
 
 // Whether it is that of the program.
 fn is_program(view: View) -> bool
-    ensures { result ≡ true → view ≡ View.Program }
+    ensures is { result ≡ true → view ≡ View.Program }
+    ensures knows { view ≡ View.Program → result ≡ true }
 {
     match view {
         View::Program => true,
@@ -27,7 +28,8 @@ fn is_program(view: View) -> bool
 impl Runner {
     // Whether the next move of the own hart is a word of the program.
     fn is_in_program(&self) -> bool
-        ensures { (w : World) (r : Run) → Shows self.now w r → result ≡ true → IsInProgram r }
+        ensures is { (w : World) (r : Run) → Shows self.now w r → result ≡ true → IsInProgram r }
+        ensures knows { (w : World) (r : Run) → Shows self.now w r → IsInProgram r → result ≡ true }
     {
         self.end.is_none() && !self.stalled && is_program(self.own.view())
     }
@@ -38,6 +40,7 @@ impl Runner {
         ensures shows { (w : World) (r : Run) → Shows self.old w r → Shows self.new w (words_done words r) }
         ensures moves { self.new.counts.moves ≡ self.old.counts.moves + words }
         ensures end { self.new.end ≡ self.old.end }
+        ensures own { (self.new.own ≡ self.old.own) × (self.new.mem ≡ self.old.mem) }
     {
         if words != 0 {
             self.fall_silent();
@@ -59,11 +62,13 @@ impl Runner {
 
     /// Makes moves of the own hart that are words of the program, at most so many: up to one that enters
     /// the stub, which is the last, or up to one that traps or wants a page, which isn't made. Answers
-    /// how many it made. None is made where the run has ended, or the own hart waits or is in the stub.
+    /// how many it made: fewer only where there is no further one. None is made where the run has ended, or
+    /// the own hart waits or is in the stub.
     pub fn go_own(&mut self, most: u64) -> u64
         requires { self.old.counts.moves + most ≤ 2 ^ 63 }
         ensures most { result ≤ most }
         ensures makes { (w : World) (r : Run) → Accepted w → Shows self.old w r → MakesOwnWords result self.new w r }
+        ensures stops { result < most → (w : World) (r : Run) → Accepted w → Shows self.old w r → StopsOwn self.new w (run_from w r (own_moves result)) }
         ensures moves { self.new.counts.moves ≡ self.old.counts.moves + result }
         ensures end { self.new.end ≡ self.old.end }
     {

@@ -1,4 +1,4 @@
-use Rattle.std.proofs.Common.{◌≡◌, ◌+◌, None}
+use Rattle.std.proofs.Common.{◌≡◌, ◌≢◌, ◌+◌, None}
 use Rattle.run_model.specs.Run.{World, Run}
 use Rattle.run_laws.specs.OwnLaws.{Accepted}
 use Rattle.runner.specs.ShadowGoes.{AreCounted}
@@ -11,7 +11,7 @@ abbrev pub invariant-loop-made : goal.invariant-loop-made
 invariant-loop-made l = record {
   on : l.self.end ≡ None;
   end : l.self.end ≡ l.fn.self.end;
-  counted : AreCounted l.self;
+  counted : l.made ≢ 0 → AreCounted l.self;
   moves : l.self.counts.moves ≡ l.fn.self.counts.moves + l.made;
   makes : (w : World) (r : Run) → Accepted w → Shows l.fn.self w r → MakesShadowWords l.made l.self w r;
 }
