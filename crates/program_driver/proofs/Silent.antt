@@ -1,9 +1,9 @@
 -- Moves of one hart, made at once, that ask nothing.
-use Rattle.std.proofs.Common.{◌≡◌, ℕ, zero, suc, ◌+◌, ◌-◌, ◌≤◌, Bool, true, false, not, ◌||◌, List, [], ◌∷◌, ◌++◌, None, refl, ap, sym, ◌∙◌, subst, arith}
+use Rattle.std.proofs.Common.{◌≡◌, ℕ, zero, suc, ◌+◌, ◌-◌, ◌≤◌, ◌<◌, ◌⊎◌, inl, inr, Bool, true, false, not, ◌||◌, List, [], ◌∷◌, ◌++◌, None, refl, ap, sym, ◌∙◌, subst, arith}
 use Rattle.std.specs.Prelude.{replicate}
 use Rattle.std.proofs.lemmas.List.{append_assoc, append-nil, map-append, replicate-append-replicate}
 use Rattle.spec_base.specs.declared.note.Move.{Move}
-use Rattle.spec_base.specs.declared.note.Move.TheVariants.{O, S, T}
+use Rattle.spec_base.specs.declared.note.Move.TheVariants.{O, S, T, D}
 use Rattle.spec_base.specs.declared.note.ShadowState.{ShadowState}
 use Rattle.run_model.specs.Run.{World, Run, Usual, opened_run}
 use Rattle.run_model.specs.ShadowMoves.{is_running, shadow_plan}
@@ -16,10 +16,10 @@ use Rattle.move_requests.specs.Asked.{Nothing, asks, asks_if, assuming_asks}
 use Rattle.move_requests.specs.Hears.{Hears}
 use Rattle.move_requests.proofs.Snoc.{moves_add_up}
 use Rattle.runner.specs.Shows.{Shows}
-use Rattle.runner.specs.Stretches.{AreOwnWords, MakesOwnWords, IsShadowWord, AreShadowWords, shadow_moves, MakesShadowWords}
+use Rattle.runner.specs.Stretches.{AreOwnWords, MakesOwnWords, IsShadowWord, AreShadowWords, shadow_moves, MakesShadowWords, StopsShadow}
 use Rattle.runner.specs.declared.runner.Runner.{Runner}
 use Rattle.runner.proofs.ShadowSteps.{asks-running, asks-waiting, step-waiting}
-use Rattle.program_driver.specs.Progress.{Progress, MakesSome}
+use Rattle.program_driver.specs.Progress.{Progress, MakesSome, StopsAt, StopsOnly}
 use Rattle.program_driver.proofs.Driven.{firsts, moves-Progress}
 use Rattle.program_driver.proofs.Idling.{silent-hears, idles, idles-firsts, run-append}
 use Rattle.program_driver.proofs.AtOnce.{HasRun, next-HasRun, program-hears}
@@ -129,7 +129,7 @@ waiting-silent (suc n) w r waits words =
       subst (AreSilent w T n) (sym is) (waiting-silent n w (step w r (S, Usual)) (shadow-waits w r ∙ waits) words.1),
     )
 
-waiting-run : (n : ℕ) (w : World) (r : Run) → r.stalled ≡ true → AreShadowWords w n r → run_from w r (idles n T) ≡ run_from w r (shadow_moves n)
+pub waiting-run : (n : ℕ) (w : World) (r : Run) → r.stalled ≡ true → AreShadowWords w n r → run_from w r (idles n T) ≡ run_from w r (shadow_moves n)
 unfolding run_from
 waiting-run zero w r waits words = refl
 waiting-run (suc n) w r waits words =
@@ -144,3 +144,30 @@ waiting-Makes now new n busy makes w r acc shows =
     let by = makes w r acc shows in
     let waits : r.stalled ≡ true = waits-of r.stalled (is_running r.shadow.state) (busy w r shows) in
     record { silent = waiting-silent n w r waits by.words; shows = subst (λ q. Shows new w q) (sym (waiting-run n w r waits by.words)) by.shows }
+
+-- ---- where they end
+
+-- an idle move isn't made at once
+pub idle-stops : (m : Move) (u : Runner) (w : World) (r : Run) → is_idle m r ≡ true → StopsAt m u w (run_from w r (replicate 0 (m, Usual)))
+unfolding run_from
+idle-stops O u w r e = inl (λ at. let f : true ≡ false = sym e ∙ at.goes in cc)
+idle-stops S u w r e = inr (inl (λ runs. let f : true ≡ false = sym e ∙ ap (λ (s : ShadowState). not (is_running s)) runs in cc))
+idle-stops T u w r e = free-or r.stalled e
+  where
+    free-or : (s : Bool) → (not s || not (is_running r.shadow.state)) ≡ true → (s ≡ false) ⊎ StopsShadow w r
+    free-or false f = inl refl
+    free-or true f = inr (inr (inl (λ runs. let g : true ≡ false = sym f ∙ ap (λ (s : ShadowState). not (is_running s)) runs in cc)))
+idle-stops D u w r e = tt
+
+-- of an equal move
+pub stops-as : (now new : Runner) (m k : Move) (most n : ℕ) → m ≡ k → StopsOnly k most n now new → StopsOnly m most n now new
+stops-as now new m k most n is h = subst (λ m. StopsOnly m most n now new) (sym is) h
+
+-- while the own hart waits
+pub waiting-stops :
+    (now new : Runner) (most n : ℕ) → ((w : World) (r : Run) → Shows now w r → is_idle T r ≡ false) → ShadowMakes n now new
+    → (n < most → (w : World) (r : Run) → Accepted w → Shows now w r → StopsShadow w (run_from w r (shadow_moves n))) → StopsOnly T most n now new
+waiting-stops now new most n busy makes stops few w r acc shows =
+    inr
+    (subst (λ q. StopsShadow w q) (sym (waiting-run n w r (waits-of r.stalled (is_running r.shadow.state) (busy w r shows)) (makes w r acc shows).words))
+    (stops few w r acc shows))

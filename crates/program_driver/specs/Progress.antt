@@ -1,9 +1,10 @@
 -- How far a runner has come with the moves of a pattern (this project's own).
-use Rattle.std.specs.Prelude.{◌≡◌, ℕ, ◌-◌, Bool, List, ◌++◌, map, replicate, Option, Some, None}
+use Rattle.std.specs.Prelude.{◌≡◌, ◌⊎◌, ◌<◌, ℕ, ◌-◌, Bool, false, List, ◌++◌, map, replicate, Option, Some, None}
 use Rattle.spec_base.specs.Files.{Files}
 use Rattle.spec_base.specs.declared.note.Move.{Move}
-use Rattle.run_model.specs.Run.{World, opened_run}
-use Rattle.run_model.specs.Moves.{Moves, run}
+use Rattle.spec_base.specs.declared.note.Move.TheVariants.{O, S, T, D}
+use Rattle.run_model.specs.Run.{World, Run, Usual, opened_run}
+use Rattle.run_model.specs.Moves.{Moves, run, run_from}
 use Rattle.run_model.specs.Patterns.{Pattern, pattern_moves}
 use Rattle.run_laws.specs.OwnLaws.{Accepted}
 use Rattle.world_io.specs.Outside.{SinkState, StoreState}
@@ -13,6 +14,7 @@ use Rattle.move_requests.specs.Hears.{AreHeard}
 use Rattle.run_promises.specs.Schedules.{GoesOn, MovesTo}
 use Rattle.runner_parts.specs.Heard.{Said, AreTrueOf}
 use Rattle.runner.specs.Shows.{Shows}
+use Rattle.runner.specs.Stretches.{StopsOwn, StopsShadow}
 use Rattle.runner.specs.declared.runner.Runner.{Runner}
 use Rattle.program_driver.specs.Lines.{ArePut}
 use Rattle.program_driver.specs.Runs.{Drives}
@@ -56,6 +58,17 @@ MakesFront coming left now new here = (pattern : Pattern) (turns : ℕ) (old : R
 -- of so many equal moves that come next these many were made, and nothing was asked
 abbrev pub MakesSome : Move → ℕ → ℕ → Runner → Runner → Type 0
 MakesSome m most made now new = (here : Outside) (left : List Move) → MakesFront (replicate most m ++ left) (replicate (most - made) m ++ left) now new here
+
+-- no further one of these moves is made at once: it does nothing but count, or there is no further word of its hart. A finish of a fetch never is
+abbrev pub StopsAt : Move → Runner → World → Run → Type 0
+StopsAt O new w r = StopsOwn new w r
+StopsAt S new w r = StopsShadow w r
+StopsAt T new w r = (r.stalled ≡ false) ⊎ StopsShadow w r
+StopsAt D new w r = Unit {0}
+
+-- fewer than so many equal moves were made only where no further one is made at once
+abbrev pub StopsOnly : Move → ℕ → ℕ → Runner → Runner → Type 0
+StopsOnly m most made now new = made < most → (w : World) (r : Run) → Accepted w → Shows now w r → StopsAt m new w (run_from w r (replicate made (m, Usual)))
 
 -- ---- a trace
 

@@ -6,7 +6,7 @@ ghost use Rattle.runner.specs.Causes.{IsLater};
 ghost use Rattle.run_promises.specs.Schedules.{MovesTo};
 ghost use Rattle.plain_runner.specs.Runs.{Outside};
 ghost use Rattle.program_driver.specs.Causes.{HasCause};
-ghost use Rattle.program_driver.specs.Progress.{MakesStretch, MakesFront, MakesSome};
+ghost use Rattle.program_driver.specs.Progress.{MakesStretch, MakesFront, MakesSome, StopsOnly};
 ghost use Rattle.program_driver.specs.Runs.{Drives};
 
 use crate::advancing::advance;
@@ -17,11 +17,12 @@ use spec_base::{List, Move};
 use world_io::{Sink, Store};
 
 /// Makes the first of so many equal moves at once, as far as they are words that ask nothing. Answers how
-/// many it made.
+/// many it made: all, or those before the first that isn't such a word. A finish of a fetch is never made so.
 fn make_at_once(runner: &mut Runner, step: Move, most: u64) -> u64
     requires few { runner.old.counts.moves + most ≤ 2 ^ 63 }
     ensures most { result ≤ most }
     ensures goes { MakesSome step most result runner.old runner.new }
+    ensures stops { StopsOnly step most result runner.old runner.new }
     ensures moves { runner.new.counts.moves ≡ runner.old.counts.moves + result }
     ensures end { runner.new.end ≡ runner.old.end }
 {
