@@ -12,8 +12,8 @@ use Rattle.run_model.specs.Moves.{Moves, step, run, run_from}
 use Rattle.run_model.specs.Marks.{Marks, no_marks, marks_after, is_use, before_use_with}
 use Rattle.own_laws.proofs.Reached.{false_true}
 use Rattle.use_marks.specs.Told.{IsTold, numbers_after}
-use Rattle.use_marks.specs.Along.{has_completed, has_restarted, numbers_by, numbers_then, numbers_from, numbers_of, is_first_use, completes_first_use, own_instr, AreMarksOf, PassesMarks, tells_fill, filled_by, StartHasMarks, QuietMoveKeepsMarks, RestartHasNoMarks, CompletedPassesMarks, OthersCompleteNone, NotesTellFills, FillsAreSettled, FirstUseIsOfHints, FirstUseIsSaid}
-use Rattle.use_marks.proofs.Told.{start_told, next_told, told_kept, first_use_told, uses_same, after_earlier, after_here, after_later, listed_other}
+use Rattle.use_marks.specs.Along.{has_completed, has_restarted, numbers_by, numbers_then, numbers_from, numbers_of, is_first_use, completes_first_use, own_instr, AreMarksOf, PassesMarks, tells_fill, filled_by, StartHasMarks, QuietMoveKeepsMarks, RestartHasNoMarks, CompletedPassesMarks, OthersCompleteNone, NotesTellFills, FillsAreSettled, FirstUseIsSaid}
+use Rattle.use_marks.proofs.Told.{start_told, next_told, told_kept, first_use_told, after_earlier, after_here, after_later, listed_other}
 use Rattle.use_marks.proofs.Moved.{Rests, Counts, Begins, Moved, rests, counts, begins, same-count, more-count, step-moved}
 
 -- ---- the start, a move that completes nothing, and a restart
@@ -235,10 +235,6 @@ settled-run w ms =
 
 pub fills-are-settled : FillsAreSettled
 fills-are-settled w ms some ahead n few = (settled-run w ms).same some ahead n few
-
-pub first-use-is-of-hints : FirstUseIsOfHints
-first-use-is-of-hints w ms some ahead i few =
-    uses_same w (run w ms) (run w ms) refl (run w ms).since.filled (numbers_of w ms) i (λ n h. fills-are-settled w ms some ahead n (omega (arith, h, few)))
 
 -- ---- the first use that is told
 

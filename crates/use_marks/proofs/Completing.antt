@@ -186,7 +186,7 @@ call-alike l q pc = kinds-alike (kind_of (reg q.registers 17)) l q pc (plan_of l
 module _ (w : World) (x : Answer) where
   -- what an own move completes is the next instruction
   abbrev CompletesIn : Run → Type 0
-  CompletesIn r = has_completed r (own_step w x r) ≡ true → 0 < r.restarts → IsTrue r.since.whole → (s : State) × Completes w r (own_step w x r) s
+  CompletesIn r = has_completed r (own_step w x r) ≡ true → 0 < r.restarts → IsTrue r.since.whole → (s : State) × Completes w r s
 
   -- the reached state is that of the run from the restart
   reached-at : (t : Tally) (s : State) → Reached w t s → 0 < t.restarts → t.whole ≡ true → option_and_then (λ (o : State). state_after w.image w.files all_taken o t.own) t.origin ≡ Some s
@@ -257,8 +257,8 @@ instr-begun Stub w r = refl
 instr-begun Plain w r = refl
 instr-begun Shadow w r = refl
 
-completes-begun : (w : World) (r y : Run) (s : State) → Completes w (begun r) y s → Completes w r y s
-completes-begun w r y s c =
+completes-begun : (w : World) (r : Run) (s : State) → Completes w (begun r) s → Completes w r s
+completes-begun w r s c =
     let same : own_instr w (begun r) ≡ own_instr w r = instr-begun r.view w r in
     record {
       at = c.at;
@@ -276,12 +276,12 @@ completes-next w a ms m = by_move (others-complete-nothing w r m.0 m.1)
     r : Run
     r = run w ms
 
-    by_end : (e : Option RunEnd) → r.end ≡ e → let y : Run = step_unless e w r (O, m.1) in has_completed r y ≡ true → 0 < r.restarts → IsTrue r.since.whole → (s : State) × Completes w r y s
+    by_end : (e : Option RunEnd) → r.end ≡ e → let y : Run = step_unless e w r (O, m.1) in has_completed r y ≡ true → 0 < r.restarts → IsTrue r.since.whole → (s : State) × Completes w r s
     by_end (Some e) f more some whole = none-more _ _ refl more
     by_end None f more some whole =
-        let c : (s : State) × Completes w (begun r) (own_step w m.1 (begun r)) s = own-completes w m.1 a (begun r) f (own_side w a ms) more some whole in
-        (c.0, completes-begun w r (own_step w m.1 (begun r)) c.0 c.1)
+        let c : (s : State) × Completes w (begun r) s = own-completes w m.1 a (begun r) f (own_side w a ms) more some whole in
+        (c.0, completes-begun w r c.0 c.1)
 
-    by_move : (m.0 ≡ O) ⊎ ((step w r m).own_done ≡ r.own_done) → has_completed r (step w r m) ≡ true → 0 < r.restarts → IsTrue r.since.whole → (s : State) × Completes w r (step w r m) s
-    by_move (inl own) more some whole = subst (λ (k : Move). has_completed r (step w r (k, m.1)) ≡ true → 0 < r.restarts → IsTrue r.since.whole → (s : State) × Completes w r (step w r (k, m.1)) s) (sym own) (by_end r.end refl) more some whole
+    by_move : (m.0 ≡ O) ⊎ ((step w r m).own_done ≡ r.own_done) → has_completed r (step w r m) ≡ true → 0 < r.restarts → IsTrue r.since.whole → (s : State) × Completes w r s
+    by_move (inl own) more some whole = subst (λ (k : Move). has_completed r (step w r (k, m.1)) ≡ true → 0 < r.restarts → IsTrue r.since.whole → (s : State) × Completes w r s) (sym own) (by_end r.end refl) more some whole
     by_move (inr same) more some whole = none-more _ _ same more

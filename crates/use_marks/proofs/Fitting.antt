@@ -17,9 +17,10 @@ use Rattle.program_model.specs.Descriptors.{Descriptor, Free, File, Out, Err, De
 use Rattle.program_model.specs.Calls.{CallKind, Open, OpenAt, Close, Seek, ReadFile, WriteFile, ExitProgram, Break, Unknown, kind_of, CallPlan, Set, Read, close_plan, seek_base, seek_from, moved_to, seek_plan, read_if, read_plan, put_if, write_plan, break_plan, plan_by}
 use Rattle.program_model.specs.PlainRun.{State}
 use Rattle.run_model.specs.Restarts.{Action, Reads, name_action, action_by, call_action, instr_action}
+use Rattle.run_model.specs.Marks.{Marks}
 use Rattle.hart_mem.proofs.Grains.{range_end-below}
 use Rattle.use_marks.specs.Ranges.{Fits}
-use Rattle.use_marks.specs.Passing.{touches_data, read_mark, ReadFits, SetsFit}
+use Rattle.use_marks.specs.Passing.{touches_data, read_mark, ReadFits, ChangeFits, change}
 use Rattle.use_marks.specs.declared.read_mark.ReadMark.{ReadMark}
 
 -- data ends below 2^64
@@ -122,7 +123,7 @@ module _ (l : Layout) (s : State) where
   mark-fits true _ h = tt
   mark-fits false _ h = tt
 
-  pub sets-fit : (rs : Registers) (filled : Bool) (i : Instr) (read : ReadMark) → IsTrue (touches_data (is_data l) rs i) → read ≡ read_mark filled (instr_action l s (Some i)) → SetsFit rs i read
-  sets-fit rs filled (Store op rs1 rs2 imm) read touches told = data-fits l _ _ touches
-  sets-fit rs filled Ecall read touches told = subst (λ (m : ReadMark). ReadFits m) (sym told) (mark-fits filled (call_action l s) call-fits)
-  sets-fit rs filled _ read touches told = tt
+  pub change-fits : (rs : Registers) (filled : Bool) (i : Instr) (read : ReadMark) (m : Marks) → IsTrue (touches_data (is_data l) rs i) → read ≡ read_mark filled (instr_action l s (Some i)) → ChangeFits (change rs i read m)
+  change-fits rs filled (Store op rs1 rs2 imm) read m touches told = data-fits l _ _ touches
+  change-fits rs filled Ecall read m touches told = subst (λ (m : ReadMark). ReadFits m) (sym told) (mark-fits filled (call_action l s) call-fits)
+  change-fits rs filled _ read m touches told = tt

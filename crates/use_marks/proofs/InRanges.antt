@@ -1,5 +1,6 @@
 -- Which addresses lie in ranges, by list and by first addresses.
-use Rattle.std.proofs.Common.{◌≡◌, ℕ, zero, suc, ◌+◌, ◌-◌, ◌^◌, ◌≤◌, ◌<◌, ◌⊎◌, inl, inr, Bool, true, false, ◌||◌, List, [], ◌∷◌, Some, slice_get, refl, sym, ◌∙◌, ap, arith, nat_le, nat_lt}
+use Rattle.std.proofs.Common.{◌≡◌, ℕ, zero, suc, ◌+◌, ◌-◌, ◌^◌, ◌≤◌, ◌<◌, ◌⊎◌, inl, inr, Bool, true, false, ◌||◌, List, [], ◌∷◌, Some, slice_get, min, max, subst, refl, sym, ◌∙◌, ap, arith, nat_le, nat_lt}
+use Rattle.std.specs.Prelude.{Result, Ok, Err, OnOk, OnErr}
 use Rattle.std.specs.BTreeMap as tree
 use Rattle.std.specs.BTreeMap.{BTreeMap, is_at}
 use Rattle.std.specs.List.{list_any}
@@ -12,7 +13,7 @@ use Rattle.std.proofs.lemmas.Map.Keys.{any_passes_from_place}
 use Rattle.std.proofs.lemmas.Map.Entries.{place_from_lookup, btree_map_get_place}
 use Rattle.std.proofs.lemmas.Map.Lookups.{exact_unsigned}
 use Rattle.rv_model.specs.Memory.{is_within, any_from}
-use Rattle.use_marks.specs.Ranges.{is_between, in_ranges, Covers, IsKept, IsBefore, Adds, Takes, with_range}
+use Rattle.use_marks.specs.Ranges.{is_between, in_ranges, AreBounded, Covers, IsKept, IsBefore, Adds, Takes, with_range}
 use Rattle.use_marks.proofs.Spans.{one_last}
 
 -- ---- tests
@@ -157,7 +158,62 @@ module _ (m : BTreeMap ℕ ℕ) (o : tree.IsOrdered nat_cmp m) (kept : IsKept (t
       let low : x.0 ≤ end = all x.0 x.2 (omega (arith, c.to, kept.addresses c.first c.last c.found)) in
       omega (arith, low)))
 
+-- ---- bounds
+
+-- what ends below them, or begins above, has none
+pub any_outside : (ranges : List (ℕ × ℕ)) (least most : ℕ) → AreBounded ranges least most → (a n end : ℕ) → ((x : ℕ) → x < a + n → x < 2 ^ 64 → x ≤ end)
+    → (end < least) ⊎ (most < a) → false ≡ any_from (in_ranges ranges) a n
+any_outside ranges least most bounded a n end all out =
+    sym
+    (false_from_ne_true (any_from (in_ranges ranges) a n) (λ t.
+    let x = any_from-place (in_ranges ranges) a n t in
+    let b = bounded x.0 x.3 in
+    let low : x.0 ≤ end = all x.0 x.2 b.2 in
+    by_side x.0 x.1 b low out))
+  where
+    by_side : (x : ℕ) → a ≤ x → (least ≤ x) × (x ≤ most) × (x < 2 ^ 64) → x ≤ end → (end < least) ⊎ (most < a) → ⊥
+    by_side x from b low (inl below) = omega (arith, from, b.0, low, below)
+    by_side x from b low (inr above) = omega (arith, from, b.1, above)
+
+-- where there are none
+pub none_bounded : (ranges : List (ℕ × ℕ)) (least most : ℕ) → ((a : ℕ) → in_ranges ranges a ≡ false) → AreBounded ranges least most
+none_bounded ranges least most none a h = absurd (let bad : true ≡ false = sym h ∙ none a in cc)
+
 -- ---- changes
+
+-- those that are added widen them
+pub added_bounded : (m h : BTreeMap ℕ ℕ) → tree.IsOrdered nat_cmp h → (first last least most : ℕ) → last < 2 ^ 64 → Adds (tree.get nat_cmp m) first last (tree.get nat_cmp h)
+    → AreBounded m.entries least most → AreBounded h.entries (min least first) (max most last)
+added_bounded m h q first last least most room adds bounded a t = by_part (adds.back a (covered h q a t))
+  where
+    by_part : Covers (tree.get nat_cmp m) a ⊎ ((first ≤ a) × (a ≤ last)) → (min least first ≤ a) × (a ≤ max most last) × (a < 2 ^ 64)
+    by_part (inl c) = let b = bounded a (in_from_covers m a c) in (omega (arith, b.0), omega (arith, b.1), b.2)
+    by_part (inr p) = (omega (arith, p.0), omega (arith, p.1), omega (arith, p.1, room))
+
+-- and those that are taken leave them
+pub taken_bounded : (m h : BTreeMap ℕ ℕ) → tree.IsOrdered nat_cmp h → (first last least most : ℕ) → Takes (tree.get nat_cmp m) first last (tree.get nat_cmp h)
+    → AreBounded m.entries least most → AreBounded h.entries least most
+taken_bounded m h q first last least most takes bounded a t = bounded a (in_from_covers m a (takes.back a (covered h q a t)))
+
+-- whether it came to that or not
+pub after_take : {A E : Type 0} (r : Result A E) (m h : BTreeMap ℕ ℕ) → tree.IsOrdered nat_cmp h → (first last least most : ℕ) → OnOk r (Takes (tree.get nat_cmp m) first last (tree.get nat_cmp h)) → OnErr r (h.entries ≡ m.entries)
+    → AreBounded m.entries least most → AreBounded h.entries least most
+after_take (Ok x) m h q first last least most takes same bounded = taken_bounded m h q first last least most takes bounded
+after_take (Err e) m h q first last least most takes same bounded = subst (λ (es : List (ℕ × ℕ)). AreBounded es least most) (sym same) bounded
+
+-- nothing is taken where there is none
+pub none_taken : (f : ℕ → Bool) (a n : ℕ) → false ≡ any_from f a n → (x : ℕ) → f x ≡ with_range f a n false x
+none_taken f a n none x = by_test (is_within a n x) refl
+  where
+    by_test : (b : Bool) → is_within a n x ≡ b → f x ≡ elim b [ true ↦ false | false ↦ f x ]
+    by_test true t =
+        let p = within_parts a n x t in
+        false_from_ne_true (f x) (λ there. let bad : true ≡ false = sym (any_from-found f a n x p.0 p.1 there) ∙ sym none in cc)
+    by_test false t = refl
+
+-- where there is one, there is an address
+pub some_any : (f : ℕ → Bool) (a n : ℕ) → any_from f a n ≡ true → 0 < n
+some_any f a n t = let x = any_from-place f a n t in omega (arith, x.1, x.2)
 
 module _ (m h : BTreeMap ℕ ℕ) (o : tree.IsOrdered nat_cmp m) (q : tree.IsOrdered nat_cmp h) (a n : ℕ) (some : 0 < n) where
   pub added_range : Adds (tree.get nat_cmp m) a (a + (n - 1)) (tree.get nat_cmp h) → (x : ℕ) → in_ranges h.entries x ≡ with_range (in_ranges m.entries) a n true x

@@ -15,7 +15,7 @@ use Rattle.program_model.specs.PlainRun.{State, plan_of}
 use Rattle.run_model.specs.Restarts.{Action, Loads, Stores, Reads, TakesName, Other, name_length, name_action, action_by, call_action, instr_action}
 use Rattle.run_model.specs.Marks.{Marks, mark_register, mark_bytes, marks_after, marks_after_call, is_use, name_is_marked}
 use Rattle.use_marks.specs.declared.read_mark.ReadMark.{ReadMark}
-use Rattle.use_marks.specs.Passing.{opens, Sees, SeesMemory, read_mark, past, past_call, name_bytes, marked_name, name_used, uses}
+use Rattle.use_marks.specs.Passing.{opens, Sees, SeesMemory, read_mark, change, changed, past_call, name_bytes, marked_name, name_used, uses}
 
 -- ---- names
 
@@ -140,27 +140,27 @@ module _ (f : ℕ → Option ℕ) (rs : Registers) (l : Layout) (s : State) wher
   call_same true m Other = refl
   call_same false m Other = refl
 
-  pub past_same : (filled : Bool) (i : Instr) → Sees f rs i l s → (read : ReadMark) → read ≡ read_mark filled (instr_action l s (Some i)) → (m : Marks) → past rs i read m ≡ marks_after l filled s (Some i) m
-  past_same filled Ecall sees read told m = ap (λ (r : ReadMark). past_call r m) told ∙ call_same filled m (call_action l s)
-  past_same filled (Load op rd rs1 imm) sees read told m = ap (λ (x : ℕ). mark_register m rd (any_from m.bytes (plus_int x imm) (load_width op))) (sym (sees.same_register rs1))
-  past_same filled (Store op rs1 rs2 imm) sees read told m = ap (λ (x : ℕ). mark_bytes m (plus_int x imm) (store_width op) (m.registers rs2)) (sym (sees.same_register rs1))
-  past_same filled (Jalr rd rs1 imm) sees read told m = refl
-  past_same filled (Branch op rs1 rs2 imm) sees read told m = refl
-  past_same filled (Lui rd imm) sees read told m = refl
-  past_same filled (Auipc rd imm) sees read told m = refl
-  past_same filled (Jal rd imm) sees read told m = refl
-  past_same filled (OpImm op rd rs1 imm) sees read told m = refl
-  past_same filled (OpImmW op rd rs1 imm) sees read told m = refl
-  past_same filled (Op op rd rs1 rs2) sees read told m = refl
-  past_same filled (OpW op rd rs1 rs2) sees read told m = refl
-  past_same filled (Fence word) sees read told m = refl
-  past_same filled Ebreak sees read told m = refl
-  past_same filled Hgate sees read told m = refl
-  past_same filled Hleave sees read told m = refl
-  past_same filled (Hsite rd) sees read told m = refl
-  past_same filled (Hkey rd) sees read told m = refl
-  past_same filled Hstop sees read told m = refl
-  past_same filled Hrestart sees read told m = refl
-  past_same filled (Hcall b) sees read told m = refl
-  past_same filled (Hpark c) sees read told m = refl
-  past_same filled Illegal sees read told m = refl
+  pub change_same : (filled : Bool) (i : Instr) → Sees f rs i l s → (read : ReadMark) → read ≡ read_mark filled (instr_action l s (Some i)) → (m : Marks) → changed (change rs i read m) m ≡ marks_after l filled s (Some i) m
+  change_same filled Ecall sees read told m = ap (λ (r : ReadMark). past_call r m) told ∙ call_same filled m (call_action l s)
+  change_same filled (Load op rd rs1 imm) sees read told m = ap (λ (x : ℕ). mark_register m rd (any_from m.bytes (plus_int x imm) (load_width op))) (sym (sees.same_register rs1))
+  change_same filled (Store op rs1 rs2 imm) sees read told m = ap (λ (x : ℕ). mark_bytes m (plus_int x imm) (store_width op) (m.registers rs2)) (sym (sees.same_register rs1))
+  change_same filled (Jalr rd rs1 imm) sees read told m = refl
+  change_same filled (Branch op rs1 rs2 imm) sees read told m = refl
+  change_same filled (Lui rd imm) sees read told m = refl
+  change_same filled (Auipc rd imm) sees read told m = refl
+  change_same filled (Jal rd imm) sees read told m = refl
+  change_same filled (OpImm op rd rs1 imm) sees read told m = refl
+  change_same filled (OpImmW op rd rs1 imm) sees read told m = refl
+  change_same filled (Op op rd rs1 rs2) sees read told m = refl
+  change_same filled (OpW op rd rs1 rs2) sees read told m = refl
+  change_same filled (Fence word) sees read told m = refl
+  change_same filled Ebreak sees read told m = refl
+  change_same filled Hgate sees read told m = refl
+  change_same filled Hleave sees read told m = refl
+  change_same filled (Hsite rd) sees read told m = refl
+  change_same filled (Hkey rd) sees read told m = refl
+  change_same filled Hstop sees read told m = refl
+  change_same filled Hrestart sees read told m = refl
+  change_same filled (Hcall b) sees read told m = refl
+  change_same filled (Hpark c) sees read told m = refl
+  change_same filled Illegal sees read told m = refl

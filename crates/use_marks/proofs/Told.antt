@@ -1,24 +1,14 @@
 -- Marks and uses along the run from a restart rest on the restart, and on the numbers of filled reads so far.
-use Rattle.std.proofs.Common.{Some, None, ◌≡◌, ℕ, zero, suc, ◌<◌, ◌≤◌, Bool, true, false, not, ◌&&◌, ◌||◌, List, [], ◌∷◌, ◌++◌, Option, refl, sym, ◌∙◌, ap, ap₂, arith, ◌==◌}
+use Rattle.std.proofs.Common.{◌≡◌, ℕ, zero, suc, ◌<◌, ◌≤◌, Bool, true, false, not, ◌&&◌, ◌||◌, List, [], ◌∷◌, ◌++◌, Option, refl, sym, ◌∙◌, ap, ap₂, arith, ◌==◌}
 use Rattle.std.specs.Option.{option_and_then}
 use Rattle.std.proofs.lemmas.Bool.Decides.{nat_tests}
 use Rattle.std.proofs.lemmas.List.Folds.{list_any-append}
 use Rattle.spec_base.specs.Listed.{is_listed}
-use Rattle.spec_base.specs.Files.{Files}
-use Rattle.spec_base.specs.declared.machine.View.TheVariants.{Plain}
-use Rattle.rv_decode.specs.declared.instr.Instr.{Instr}
-use Rattle.rv_decode.specs.declared.instr.Instr.TheVariants.{Lui, Auipc, Jal, Jalr, Branch, Load, Store, OpImm, OpImmW, Op, OpW, Fence, Ecall, Ebreak, Hgate, Hleave, Hsite, Hkey, Hstop, Hrestart, Hcall, Hpark, Illegal}
-use Rattle.rv_decode.specs.declared.instr.LoadOp.{LoadOp}
-use Rattle.rv_model.specs.Memory.{Memory}
-use Rattle.rv_model.specs.Registers.{Registers}
-use Rattle.rv_model.specs.Rights.{is_data, data_rights}
-use Rattle.rv_model.specs.Effect.{effect, load_if, store_if}
-use Rattle.use_marks.specs.Passing.{touches_data}
-use Rattle.program_model.specs.PlainRun.{Image, Taken, completed, after_effect, at_word, next_unless, next_state, State, state_after, all_taken}
+use Rattle.program_model.specs.PlainRun.{State, state_after, all_taken}
 use Rattle.run_model.specs.Run.{World, Run}
 use Rattle.run_model.specs.Restarts.{from_restart, instr_at}
 use Rattle.run_model.specs.Marks.{is_use, Marks, marks_after, marks_after_some, marks_with, some_use, before_use_with}
-use Rattle.use_marks.specs.Told.{numbers_after, StartIsTold, NextIsTold, ToldIsKept, FirstUseIsTold, NextHasData, ToldIsOfRun}
+use Rattle.use_marks.specs.Told.{numbers_after, StartIsTold, NextIsTold, ToldIsKept, FirstUseIsTold}
 
 -- ---- numbers
 
@@ -104,12 +94,6 @@ told_kept w r y i numbers m unused e told = record {
   uses = told.uses ∙ sym (uses_same w r y e numbers numbers i (λ n h. refl));
 }
 
-pub told_of_run : ToldIsOfRun
-told_of_run w r i numbers m unused told same = (
-  told.marks ∙ sym (marks_same w r r refl numbers r.since.filled i same),
-  told.uses ∙ sym (uses_same w r r refl numbers r.since.filled i same),
-)
-
 pub first_use_told : FirstUseIsTold
 unfolding before_use_with
 first_use_told w r i numbers m unused s told at =
@@ -120,65 +104,3 @@ first_use_told w r i numbers m unused s told at =
     both true true = refl
     both true false = refl
     both false c = refl
-
--- ---- what completes touches data
-
-state_suc : (w : World) (o : State) (i : ℕ) → state_after w.image w.files all_taken o (suc i) ≡ option_and_then (next_state w.image w.files all_taken) (state_after w.image w.files all_taken o i)
-unfolding state_after
-state_suc w o i = refl
-
-module _ (p : Image) (files : Files) (t : Taken) (s next : State) where
-  load_goes : (y z : Bool) (m : Memory) (op : LoadOp) (rs : Registers) (pc rd a : ℕ) → completed (after_effect p files t s (load_if y z m op rs pc rd a)) ≡ Some next → z ≡ true
-  load_goes y true m op rs pc rd a h = refl
-  load_goes true false m op rs pc rd a h = absurd (let bad : None ≡ Some next = h in cc)
-  load_goes false false m op rs pc rd a h = absurd (let bad : None ≡ Some next = h in cc)
-
-  store_goes : (y z : Bool) (a width v : ℕ) → completed (after_effect p files t s (store_if y z a width v)) ≡ Some next → z ≡ true
-  store_goes y true a width v h = refl
-  store_goes true false a width v h = absurd (let bad : None ≡ Some next = h in cc)
-  store_goes false false a width v h = absurd (let bad : None ≡ Some next = h in cc)
-
-  goes_on_data : (i : Instr) → completed (after_effect p files t s (effect Plain (data_rights p.layout) s.memory s.registers s.pc i)) ≡ Some next → touches_data (is_data p.layout) s.registers i ≡ true
-  goes_on_data (Load op rd rs1 imm) h = load_goes _ _ s.memory op s.registers s.pc rd _ h
-  goes_on_data (Store op rs1 rs2 imm) h = store_goes _ _ _ _ _ h
-  goes_on_data (Jalr rd rs1 imm) h = refl
-  goes_on_data (Branch op rs1 rs2 imm) h = refl
-  goes_on_data (Lui rd imm) h = refl
-  goes_on_data (Auipc rd imm) h = refl
-  goes_on_data (Jal rd imm) h = refl
-  goes_on_data (OpImm op rd rs1 imm) h = refl
-  goes_on_data (OpImmW op rd rs1 imm) h = refl
-  goes_on_data (Op op rd rs1 rs2) h = refl
-  goes_on_data (OpW op rd rs1 rs2) h = refl
-  goes_on_data (Fence word) h = refl
-  goes_on_data Ecall h = refl
-  goes_on_data Ebreak h = refl
-  goes_on_data Hgate h = refl
-  goes_on_data Hleave h = refl
-  goes_on_data (Hsite rd) h = refl
-  goes_on_data (Hkey rd) h = refl
-  goes_on_data Hstop h = refl
-  goes_on_data Hrestart h = refl
-  goes_on_data (Hcall b) h = refl
-  goes_on_data (Hpark c) h = refl
-  goes_on_data Illegal h = refl
-
-  at_instr : (o : Option Instr) (i : Instr) → o ≡ Some i → completed (at_word p files t s o) ≡ Some next → touches_data (is_data p.layout) s.registers i ≡ true
-  at_instr o i e h = goes_on_data i (sym (ap (λ (x : Option Instr). completed (at_word p files t s x)) e) ∙ h)
-
-  unless_goes : (o : Option ℕ) (i : Instr) → instr_at p s ≡ Some i → next_unless o p files t s ≡ Some next → touches_data (is_data p.layout) s.registers i ≡ true
-  unless_goes None i e h = at_instr (instr_at p s) i e h
-  unless_goes (Some code) i e h = absurd (let bad : None ≡ Some next = h in cc)
-
-pub next_has_data : NextHasData
-next_has_data w r i s next instr at after here = from_origin r.since.origin at after
-  where
-    step_goes : option_and_then (next_state w.image w.files all_taken) (Some s) ≡ Some next → touches_data (is_data w.image.layout) s.registers instr ≡ true
-    step_goes h = unless_goes w.image w.files all_taken s next s.exited instr here h
-
-    by_steps : (o : State) → state_after w.image w.files all_taken o i ≡ Some s → state_after w.image w.files all_taken o (suc i) ≡ Some next → touches_data (is_data w.image.layout) s.registers instr ≡ true
-    by_steps o e h = step_goes (sym (ap (option_and_then (next_state w.image w.files all_taken)) e) ∙ (sym (state_suc w o i) ∙ h))
-
-    from_origin : (o : Option State) → option_and_then (λ s. state_after w.image w.files all_taken s i) o ≡ Some s → option_and_then (λ s. state_after w.image w.files all_taken s (suc i)) o ≡ Some next → touches_data (is_data w.image.layout) s.registers instr ≡ true
-    from_origin None e h = absurd (let bad : None ≡ Some next = h in cc)
-    from_origin (Some o) e h = by_steps o e h

@@ -14,7 +14,7 @@ use Rattle.program_model.specs.PlainRun.{State}
 use Rattle.run_model.specs.Run.{World, Run, Answer, rewritten_text, opened_run}
 use Rattle.run_model.specs.Moves.{Moves, step, run}
 use Rattle.run_model.specs.Restarts.{from_restart, instr_at, instr_action}
-use Rattle.run_model.specs.Marks.{Marks, no_marks, marks_after, is_use, before_use, before_use_with, IsFirstUse}
+use Rattle.run_model.specs.Marks.{Marks, no_marks, marks_after, is_use, before_use_with, IsFirstUse}
 use Rattle.spec_base.specs.declared.note.Move.{Move}
 use Rattle.run_laws.specs.OwnLaws.{Accepted}
 use Rattle.use_marks.specs.Passing.{touches_data}
@@ -72,8 +72,8 @@ own_instr_in Shadow w r = None
 abbrev pub own_instr : World → Run → Option Instr
 own_instr w r = own_instr_in r.view w r
 
--- a move completed this instruction, which is the next one of the run from the restart: the own hart shows its state
-pub record Completes (w : World) (r next : Run) (s : State) : Type 0 where
+-- what a move completes is the instruction of this state, the next one of the run from the restart: the own hart shows it
+pub record Completes (w : World) (r : Run) (s : State) : Type 0 where
   pub at : from_restart w r r.since.own ≡ Some s
   pub instr : instr_at w.image s ≡ own_instr w r
   pub registers : (k : ℕ) → reg s.registers k ≡ reg r.own.registers k
@@ -106,7 +106,7 @@ RestartHasNoMarks = (w : World) (r : Run) (m : Move × Answer) → has_restarted
 abbrev pub CompletesNext : Type 0
 CompletesNext =
     (w : World) → Accepted w → (ms : Moves) (m : Move × Answer) → let r = run w ms in let next : Run = step w r m in
-    has_completed r next ≡ true → 0 < r.restarts → IsTrue r.since.whole → (s : State) × Completes w r next s
+    has_completed r next ≡ true → 0 < r.restarts → IsTrue r.since.whole → (s : State) × Completes w r s
 
 -- it takes the marks on, and is the first use exactly where none was one before it and it is one by the marks
 pub record PassesMarks (w : World) (r next : Run) (numbers : List ℕ) (m : Marks) (unused : Bool) (s : State) : Type 0 where
@@ -118,7 +118,7 @@ pub record PassesMarks (w : World) (r next : Run) (numbers : List ℕ) (m : Mark
 abbrev pub CompletedPassesMarks : Type 0
 CompletedPassesMarks =
     (w : World) (r : Run) (x : Move × Answer) (numbers : List ℕ) (m : Marks) (unused : Bool) (s : State) → AreMarksOf w r numbers m unused →
-    has_completed r (step w r x) ≡ true → 0 < r.restarts → IsTrue r.since.whole → Completes w r (step w r x) s → PassesMarks w r (step w r x) numbers m unused s
+    has_completed r (step w r x) ≡ true → 0 < r.restarts → IsTrue r.since.whole → Completes w r s → PassesMarks w r (step w r x) numbers m unused s
 
 -- where nothing was restarted, or a put wasn't whole, no move completes a first use, and nothing is promised of the marks behind it
 abbrev pub OthersCompleteNone : Type 0
@@ -153,12 +153,6 @@ abbrev pub FillsAreSettled : Type 0
 FillsAreSettled =
     (w : World) (ms : Moves) → let r = run w ms in 0 < r.restarts → IsTrue r.since.ahead → (n : ℕ) → n ≤ r.since.own →
     is_listed (numbers_of w ms) n ≡ is_listed r.since.filled n
-
--- so the first use that is told is the first use that the hints rest on, by the reads that are filled when it is completed
-abbrev pub FirstUseIsOfHints : Type 0
-FirstUseIsOfHints =
-    (w : World) (ms : Moves) → let r = run w ms in 0 < r.restarts → IsTrue r.since.ahead → (i : ℕ) → i ≤ r.since.own →
-    before_use_with (numbers_of w ms) w r i ≡ before_use w r i
 
 -- it is the first use that is told
 abbrev pub FirstUseIsSaid : Type 0

@@ -14,6 +14,8 @@ use Rattle.program_model.specs.PlainRun.{State}
 use Rattle.run_model.specs.Restarts.{Action, Reads, name_length}
 use Rattle.run_model.specs.Marks.{Marks, mark_register, mark_bytes}
 use Rattle.use_marks.specs.Ranges.{Fits}
+use Rattle.use_marks.specs.declared.passage.MarkChange.{MarkChange}
+use Rattle.use_marks.specs.declared.passage.MarkChange.TheVariants as to
 use Rattle.use_marks.specs.declared.read_mark.ReadMark.{ReadMark}
 use Rattle.use_marks.specs.declared.read_mark.ReadMark.TheVariants as reads
 
@@ -58,32 +60,41 @@ ReadFits reads.None = ⊤
 ReadFits (reads.Left a n) = Fits a n
 ReadFits (reads.Filled a n) = Fits a n
 
--- the bytes that a store or a read marks or clears do
-abbrev pub SetsFit : Registers → Instr → ReadMark → Type 0
-SetsFit rs (Store op rs1 rs2 imm) read = Fits (plus_int (reg rs rs1) imm) (store_width op)
-SetsFit rs Ecall read = ReadFits read
-SetsFit rs other read = ⊤
+-- ---- what an instruction changes of marks
 
--- ---- marks after an instruction
+abbrev pub change : Registers → Instr → ReadMark → Marks → MarkChange
+change rs (Load op rd rs1 imm) read m = to.Register rd (any_from m.bytes (plus_int (reg rs rs1) imm) (load_width op))
+change rs (Store op rs1 rs2 imm) read m = to.Bytes (plus_int (reg rs rs1) imm) (store_width op) (m.registers rs2)
+change rs (OpImm op rd rs1 imm) read m = to.Register rd (m.registers rs1)
+change rs (OpImmW op rd rs1 imm) read m = to.Register rd (m.registers rs1)
+change rs (Op op rd rs1 rs2) read m = to.Register rd (m.registers rs1 || m.registers rs2)
+change rs (OpW op rd rs1 rs2) read m = to.Register rd (m.registers rs1 || m.registers rs2)
+change rs (Lui rd imm) read m = to.Register rd false
+change rs (Auipc rd imm) read m = to.Register rd false
+change rs (Jal rd imm) read m = to.Register rd false
+change rs (Jalr rd rs1 imm) read m = to.Register rd false
+change rs Ecall read m = to.Call read
+change rs other read m = to.None
 
+-- the bytes of a change end below 2^64
+abbrev pub ChangeFits : MarkChange → Type 0
+ChangeFits (to.Bytes a n marked) = Fits a n
+ChangeFits (to.Call read) = ReadFits read
+ChangeFits (to.Register rd marked) = ⊤
+ChangeFits to.None = ⊤
+
+-- a call passed, by what is told of its read
 abbrev pub past_call : ReadMark → Marks → Marks
 past_call reads.None m = mark_register m 10 false
 past_call (reads.Left a n) m = mark_register (mark_bytes m a n true) 10 false
 past_call (reads.Filled a n) m = mark_register (mark_bytes m a n false) 10 false
 
-abbrev pub past : Registers → Instr → ReadMark → Marks → Marks
-past rs (Load op rd rs1 imm) read m = mark_register m rd (any_from m.bytes (plus_int (reg rs rs1) imm) (load_width op))
-past rs (Store op rs1 rs2 imm) read m = mark_bytes m (plus_int (reg rs rs1) imm) (store_width op) (m.registers rs2)
-past rs (OpImm op rd rs1 imm) read m = mark_register m rd (m.registers rs1)
-past rs (OpImmW op rd rs1 imm) read m = mark_register m rd (m.registers rs1)
-past rs (Op op rd rs1 rs2) read m = mark_register m rd (m.registers rs1 || m.registers rs2)
-past rs (OpW op rd rs1 rs2) read m = mark_register m rd (m.registers rs1 || m.registers rs2)
-past rs (Lui rd imm) read m = mark_register m rd false
-past rs (Auipc rd imm) read m = mark_register m rd false
-past rs (Jal rd imm) read m = mark_register m rd false
-past rs (Jalr rd rs1 imm) read m = mark_register m rd false
-past rs Ecall read m = past_call read m
-past rs other read m = m
+-- marks after a change
+abbrev pub changed : MarkChange → Marks → Marks
+changed to.None m = m
+changed (to.Register rd marked) m = mark_register m rd marked
+changed (to.Bytes a n marked) m = mark_bytes m a n marked
+changed (to.Call read) m = past_call read m
 
 -- ---- uses
 

@@ -15,6 +15,10 @@ in_ranges ranges a = list_any (λ e. is_between e.0 e.1 a) ranges
 abbrev pub with_range : (ℕ → Bool) → ℕ → ℕ → Bool → ℕ → Bool
 with_range bytes base n marked a = elim (is_within base n a) [ true ↦ marked | false ↦ bytes a ]
 
+-- each address in these ranges lies between two, and is below 2^64
+abbrev pub AreBounded : List (ℕ × ℕ) → ℕ → ℕ → Type 0
+AreBounded ranges least most = (a : ℕ) → in_ranges ranges a ≡ true → (least ≤ a) × (a ≤ most) × (a < 2 ^ 64)
+
 -- n addresses from one on end below 2^64
 abbrev pub Fits : ℕ → ℕ → Type 0
 Fits a n = 0 < n → a + n ≤ 2 ^ 64

@@ -1,13 +1,10 @@
 -- What passing the instructions of the run from a restart one by one tells: the marks, and the first use, by the reads that were filled when each was passed (this project's own).
-use Rattle.std.specs.Prelude.{◌≡◌, ℕ, suc, ◌<◌, ◌≤◌, Bool, true, false, not, ◌&&◌, List, [], ◌∷◌, ◌++◌, Some, IsTrue}
+use Rattle.std.specs.Prelude.{◌≡◌, ℕ, suc, ◌<◌, Bool, true, false, not, ◌&&◌, List, [], ◌∷◌, ◌++◌, Some}
 use Rattle.spec_base.specs.Listed.{is_listed}
-use Rattle.rv_decode.specs.declared.instr.Instr.{Instr}
-use Rattle.rv_model.specs.Rights.{is_data}
 use Rattle.program_model.specs.PlainRun.{State}
 use Rattle.run_model.specs.Run.{World, Run}
 use Rattle.run_model.specs.Restarts.{from_restart, instr_at}
-use Rattle.use_marks.specs.Passing.{touches_data}
-use Rattle.run_model.specs.Marks.{Marks, no_marks, marks_after, marks_with, is_use, before_use_with, marks, before_use}
+use Rattle.run_model.specs.Marks.{Marks, no_marks, marks_after, marks_with, is_use, before_use_with, marks}
 
 -- the numbers of filled reads after one more instruction
 abbrev pub numbers_after : List ℕ → ℕ → Bool → List ℕ
@@ -40,15 +37,3 @@ abbrev pub FirstUseIsTold : Type 0
 FirstUseIsTold =
     (w : World) (r : Run) (i : ℕ) (numbers : List ℕ) (m : Marks) (unused : Bool) (s : State) → IsTold w r i numbers m unused → from_restart w r i ≡ Some s →
     (before_use_with numbers w r i && not (before_use_with numbers w r (suc i))) ≡ (unused && is_use w.image.layout s (instr_at w.image s) m)
-
--- what the next instruction loads or stores is data, if there is a state after it
-abbrev pub NextHasData : Type 0
-NextHasData =
-    (w : World) (r : Run) (i : ℕ) (s next : State) (instr : Instr) → from_restart w r i ≡ Some s → from_restart w r (suc i) ≡ Some next → instr_at w.image s ≡ Some instr →
-    IsTrue (touches_data (is_data w.image.layout) s.registers instr)
-
--- where the run's list of filled reads says the same of the first i instructions, these are the run's own marks, and its first use
-abbrev pub ToldIsOfRun : Type 0
-ToldIsOfRun =
-    (w : World) (r : Run) (i : ℕ) (numbers : List ℕ) (m : Marks) (unused : Bool) → IsTold w r i numbers m unused → ((n : ℕ) → n ≤ i → is_listed r.since.filled n ≡ is_listed numbers n) →
-    (m ≡ marks w r i) × (unused ≡ before_use w r i)

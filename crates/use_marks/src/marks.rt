@@ -14,9 +14,10 @@ ghost use Rattle.rv_model.specs.Rights.{is_data};
 ghost use Rattle.hart_step.specs.Core.{core_of};
 ghost use Rattle.use_marks.specs.Ranges.{Fits};
 ghost use Rattle.use_marks.specs.Marked.{marks_of};
-ghost use Rattle.use_marks.specs.Passing.{Sees, read_mark, touches_data, SetsFit, ReadFits, past, past_call, uses, name_used, marked_name};
+ghost use Rattle.use_marks.specs.Passing.{Sees, read_mark, touches_data, ReadFits, ChangeFits, change, changed, past_call, uses, name_used, marked_name};
 
 use crate::access::{address_of, load_bytes, name_length, store_bytes, value};
+use crate::passage::{MarkChange, Passage, unused};
 use crate::ranges::Ranges;
 use crate::read_mark::ReadMark;
 use hart_step::Hart;
@@ -65,48 +66,97 @@ impl Marks {
         self.bytes.contains(address)
     }
 
-    /// Takes the marks past an instruction that completed from `before`, and tells whether the
-    /// instruction uses one. What is told of a read counts at a call alone, and `mem` where a call
-    /// looks at a name: so it may be the memory after the instruction. After an Err the marks are
-    /// as before. An instruction that completes touches data alone, so the marks are true after it.
-    pub fn pass<B: Bytes>(
-        &mut self,
-        instr: &Instr,
-        before: &Hart,
-        mem: &B,
-        read: ReadMark,
-    ) -> Result<bool, NoMemory>
-        ensures used { IfOk result (λ used. (l : Layout) (s : State) → Sees (B.byte_at mem.now) (core_of before.now).registers instr.now l s → used ≡ is_use l s (Some instr.now) (marks_of self.old)) }
-        ensures passed { OnOk result ((l : Layout) (filled : Bool) (s : State) → Sees (B.byte_at mem.now) (core_of before.now).registers instr.now l s → IsTrue (touches_data (is_data l) (core_of before.now).registers instr.now) → read ≡ read_mark filled (instr_action l s (Some instr.now)) → marks_of self.new ≡ marks_after l filled s (Some instr.now) (marks_of self.old)) }
-        ensures err { OnErr result (marks_of self.new ≡ marks_of self.old) }
+    /// What an instruction does when it completes from here. What is told of a read counts at a call
+    /// alone, and `mem` where a call looks at a name. An instruction that completes touches data alone,
+    /// so the bytes of its change end below 2^64.
+    pub fn look<B: Bytes>(&self, instr: &Instr, here: &Hart, mem: &B, read: ReadMark) -> Passage
+        ensures used { (l : Layout) (s : State) → Sees (B.byte_at mem.now) (core_of here.now).registers instr.now l s → result.used ≡ is_use l s (Some instr.now) (marks_of self.now) }
+        ensures change { (l : Layout) (filled : Bool) (s : State) → Sees (B.byte_at mem.now) (core_of here.now).registers instr.now l s → read ≡ read_mark filled (instr_action l s (Some instr.now)) → changed result.change (marks_of self.now) ≡ marks_after l filled s (Some instr.now) (marks_of self.now) }
+        ensures fits { (l : Layout) (filled : Bool) (s : State) → IsTrue (touches_data (is_data l) (core_of here.now).registers instr.now) → read ≡ read_mark filled (instr_action l s (Some instr.now)) → ChangeFits result.change }
     {
-        let used = self.is_used(*instr, before, mem);
-        self.go_past(*instr, before, mem, read)?;
-        Ok(used)
+        self.passage(*instr, here, mem, read)
     }
 
-    // Whether an instruction uses a mark.
-    fn is_used<B: Bytes>(&self, instr: Instr, before: &Hart, mem: &B) -> bool
-        ensures { result ≡ uses (B.byte_at mem.now) (core_of before.now).registers instr (marks_of self.now) }
+    /// Takes the marks past an instruction that completed, by its change. After an Err they are as before.
+    pub fn pass(&mut self, change: MarkChange) -> Result<(), NoMemory>
+        ensures ok { OnOk result (ChangeFits change → marks_of self.new ≡ changed change (marks_of self.old)) }
+        ensures err { OnErr result (marks_of self.new ≡ marks_of self.old) }
+    {
+        match change {
+            MarkChange::None => Ok(()),
+            MarkChange::Register { rd, marked } => {
+                self.set_reg(rd, marked);
+                Ok(())
+            }
+            MarkChange::Bytes {
+                address,
+                count,
+                marked,
+            } => self.set_bytes(address, count, marked),
+            MarkChange::Call(read) => self.go_past_call(read),
+        }
+    }
+
+    // Whether an instruction uses a mark, and what it changes of the marks.
+    #[inline(always)]
+    fn passage<B: Bytes>(&self, instr: Instr, here: &Hart, mem: &B, read: ReadMark) -> Passage
+        ensures used { result.used ≡ uses (B.byte_at mem.now) (core_of here.now).registers instr (marks_of self.now) }
+        ensures change { result.change ≡ change (core_of here.now).registers instr read (marks_of self.now) }
     {
         match instr {
-            Instr::Load { rs1, .. } | Instr::Store { rs1, .. } | Instr::Jalr { rs1, .. } => {
-                self.marked_reg(rs1)
+            Instr::Load { op, rd, rs1, imm } => Passage {
+                used: self.marked_reg(rs1),
+                change: MarkChange::Register {
+                    rd,
+                    marked: self
+                        .bytes
+                        .contains_any(address_of(here, rs1, imm), load_bytes(op)),
+                },
+            },
+            Instr::Store { op, rs1, rs2, imm } => Passage {
+                used: self.marked_reg(rs1),
+                change: MarkChange::Bytes {
+                    address: address_of(here, rs1, imm),
+                    count: store_bytes(op),
+                    marked: self.marked_reg(rs2),
+                },
+            },
+            Instr::OpImm { rd, rs1, .. } | Instr::OpImmW { rd, rs1, .. } => {
+                unused(rd, self.marked_reg(rs1))
             }
-            Instr::Branch { rs1, rs2, .. } => self.marked_reg(rs1) || self.marked_reg(rs2),
-            Instr::Ecall => self.is_call_used(before, mem),
-            _ => false,
+            Instr::Op { rd, rs1, rs2, .. } | Instr::OpW { rd, rs1, rs2, .. } => {
+                unused(rd, self.marked_reg(rs1) || self.marked_reg(rs2))
+            }
+            Instr::Lui { rd, .. } | Instr::Auipc { rd, .. } | Instr::Jal { rd, .. } => {
+                unused(rd, false)
+            }
+            Instr::Jalr { rd, rs1, .. } => Passage {
+                used: self.marked_reg(rs1),
+                change: MarkChange::Register { rd, marked: false },
+            },
+            Instr::Branch { rs1, rs2, .. } => Passage {
+                used: self.marked_reg(rs1) || self.marked_reg(rs2),
+                change: MarkChange::None,
+            },
+            Instr::Ecall => Passage {
+                used: self.is_call_used(here, mem),
+                change: MarkChange::Call(read),
+            },
+            _ => Passage {
+                used: false,
+                change: MarkChange::None,
+            },
         }
     }
 
     // Whether a call uses a mark.
-    fn is_call_used<B: Bytes>(&self, before: &Hart, mem: &B) -> bool
-        ensures { result ≡ uses (B.byte_at mem.now) (core_of before.now).registers Instr.Ecall (marks_of self.now) }
+    fn is_call_used<B: Bytes>(&self, here: &Hart, mem: &B) -> bool
+        ensures { result ≡ uses (B.byte_at mem.now) (core_of here.now).registers Instr.Ecall (marks_of self.now) }
     {
         if self.is_argument_used() {
             return true;
         }
-        self.is_name_used(before, mem)
+        self.is_name_used(here, mem)
     }
 
     // Whether a call's number or one of its arguments is marked.
@@ -127,12 +177,12 @@ impl Marks {
     }
 
     // Whether a call looks at a name with a marked byte.
-    fn is_name_used<B: Bytes>(&self, before: &Hart, mem: &B) -> bool
-        ensures { result ≡ name_used (kind_of (reg (core_of before.now).registers 17)) (B.byte_at mem.now) (core_of before.now).registers (marks_of self.now).bytes }
+    fn is_name_used<B: Bytes>(&self, here: &Hart, mem: &B) -> bool
+        ensures { result ≡ name_used (kind_of (reg (core_of here.now).registers 17)) (B.byte_at mem.now) (core_of here.now).registers (marks_of self.now).bytes }
     {
-        match value(before, 17) {
-            1024 => self.is_read_name_used(mem, value(before, 10), value(before, 11)),
-            56 => self.is_read_name_used(mem, value(before, 11), value(before, 12)),
+        match value(here, 17) {
+            1024 => self.is_read_name_used(mem, value(here, 10), value(here, 11)),
+            56 => self.is_read_name_used(mem, value(here, 11), value(here, 12)),
             _ => false,
         }
     }
@@ -142,46 +192,6 @@ impl Marks {
         ensures { result ≡ (if flags % 4 == 0 then marked_name (B.byte_at mem.now) (marks_of self.now).bytes address else false) }
     {
         flags % 4 == 0 && self.bytes.contains_any(address, name_length(mem, address))
-    }
-
-    // Takes the marks past an instruction.
-    fn go_past<B: Bytes>(
-        &mut self,
-        instr: Instr,
-        before: &Hart,
-        mem: &B,
-        read: ReadMark,
-    ) -> Result<(), NoMemory>
-        ensures ok { OnOk result (SetsFit (core_of before.now).registers instr read → marks_of self.new ≡ past (core_of before.now).registers instr read (marks_of self.old)) }
-        ensures err { OnErr result (marks_of self.new ≡ marks_of self.old) }
-    {
-        match instr {
-            Instr::Load { op, rd, rs1, imm } => {
-                let marked = self
-                    .bytes
-                    .contains_any(address_of(before, rs1, imm), load_bytes(op));
-                self.set_reg(rd, marked);
-            }
-            Instr::Store { op, rs1, rs2, imm } => {
-                let marked = self.marked_reg(rs2);
-                self.set_bytes(address_of(before, rs1, imm), store_bytes(op), marked)?;
-            }
-            Instr::OpImm { rd, rs1, .. } | Instr::OpImmW { rd, rs1, .. } => {
-                let marked = self.marked_reg(rs1);
-                self.set_reg(rd, marked);
-            }
-            Instr::Op { rd, rs1, rs2, .. } | Instr::OpW { rd, rs1, rs2, .. } => {
-                let marked = self.marked_reg(rs1) || self.marked_reg(rs2);
-                self.set_reg(rd, marked);
-            }
-            Instr::Lui { rd, .. }
-            | Instr::Auipc { rd, .. }
-            | Instr::Jal { rd, .. }
-            | Instr::Jalr { rd, .. } => self.set_reg(rd, false),
-            Instr::Ecall => return self.go_past_call(read),
-            _ => {}
-        }
-        Ok(())
     }
 
     // Takes the marks past a call.

@@ -145,7 +145,9 @@ fn memory(alloc: Global) -> Result<Stretch, NoMemory> {
 
 // Passes a step from a hart, and tells whether it is a use.
 fn pass(marks: &mut Marks, step: Step, hart: &Hart, mem: &Stretch) -> Result<bool, NoMemory> {
-    marks.pass(&step.0, hart, mem, step.1)
+    let passage = marks.look(&step.0, hart, mem, step.1);
+    marks.pass(passage.change)?;
+    Ok(passage.used)
 }
 
 // The number of the first step that is a use, from 1; 0 if none is.

@@ -1,4 +1,4 @@
-use Rattle.use_marks.proofs.Along.{start-marks, quiet-marks, restart-marks, completed-marks, others-complete-none, notes-tell-fills, first-use-is-said}
+use Rattle.use_marks.proofs.Along.{start-marks, quiet-marks, restart-marks, completed-marks, others-complete-none, notes-tell-fills, fills-are-settled, first-use-is-said}
 use Rattle.use_marks.proofs.Completing.{completes-next}
 use Rattle.use_marks.proofs.laws.uses_are_told.Goals as goal
 
@@ -22,6 +22,9 @@ returns-clause-others c = others-complete-none
 
 pub returns-clause-fills : goal.returns-clause-fills
 returns-clause-fills c = notes-tell-fills
+
+pub returns-clause-settled : goal.returns-clause-settled
+returns-clause-settled c = fills-are-settled
 
 pub returns-clause-said : goal.returns-clause-said
 returns-clause-said c = first-use-is-said
