@@ -24,7 +24,8 @@ use Rattle.file_calls.specs.declared.plan.PlannedCall.TheVariants as planned
 use Rattle.use_marks.specs.Passing.{opens, read_mark}
 use Rattle.use_marks.specs.declared.read_mark.ReadMark.{ReadMark}
 use Rattle.use_marks.specs.declared.read_mark.ReadMark.TheVariants as reads
-use Rattle.program_driver.proofs.Looking.{is_read, opening-plan}
+use Rattle.mark_laws.specs.Agreement.{is_read}
+use Rattle.mark_laws.proofs.OneCall.{is_open, plan_by-is_read}
 
 -- what is told of the read that a plan makes
 abbrev pub plan_mark : Bool → CallPlan → ReadMark
@@ -37,6 +38,11 @@ no-read true (Read d spot a) e = absurd (let g : true ≡ false = e in cc)
 no-read false (Read d spot a) e = absurd (let g : true ≡ false = e in cc)
 no-read true _ e = refl
 no-read false _ e = refl
+
+same-kinds : (k : CallKind) → opens k ≡ is_open k
+same-kinds Open = refl
+same-kinds OpenAt = refl
+same-kinds _ = refl
 
 no-name : (filled b : Bool) (l : Layout) (s : State) (a : ℕ) → read_mark filled (name_action b l s a) ≡ reads.None
 no-name true true l s a = refl
@@ -64,7 +70,7 @@ call-mark filled l s = by (opens (kind_of (reg s.registers 17))) refl
     by : (b : Bool) → opens (kind_of (reg s.registers 17)) ≡ b → read_mark filled (call_action l s) ≡ plan_mark filled (plan_of l s)
     by true e =
         name-mark filled (kind_of (reg s.registers 17)) l s (plan_of l s) e
-        ∙ sym (no-read filled (plan_of l s) (opening-plan (kind_of (reg s.registers 17)) (is_data l) s.memory s.files (reg s.registers 10) (reg s.registers 11) (reg s.registers 12) e))
+        ∙ sym (no-read filled (plan_of l s) (plan_by-is_read (kind_of (reg s.registers 17)) (sym (same-kinds (kind_of (reg s.registers 17))) ∙ e) (is_data l) s.memory s.files (reg s.registers 10) (reg s.registers 11) (reg s.registers 12)))
     by false e = other-mark filled (kind_of (reg s.registers 17)) l s (plan_of l s) e
 
 -- ---- the plan of the own hart's call
@@ -96,7 +102,3 @@ pub no-call : (filled : Bool) (l : Layout) (s : State) (i : Instr) → i ≢ Eca
 no-call filled l s Ecall not = absurd (not refl)
 no-call true l s _ not = refl
 no-call false l s _ not = refl
-
-pub no-instr : (filled : Bool) (l : Layout) (s : State) → reads.None ≡ read_mark filled (instr_action l s None)
-no-instr true l s = refl
-no-instr false l s = refl

@@ -11,7 +11,6 @@ mod Passing
 mod AtOnce
 mod Stretching
 mod Silent
-mod Looking
 mod CallReads
 mod Using
 pub mod FirstUses

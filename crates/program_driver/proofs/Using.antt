@@ -1,6 +1,6 @@
 -- What is kept along a trace to tell uses is kept by each move.
-use Rattle.std.proofs.Common.{◌≡◌, ℕ, suc, ◌+◌, ◌<◌, ◌≤◌, Bool, true, false, not, ◌&&◌, ◌||◌, ◌==◌, List, [], ◌∷◌, ◌++◌, Option, Some, None, length, drop, get_or, refl, ap, sym, ◌∙◌, subst, arith, nat_lt}
-use Rattle.std.specs.Prelude.{IsTrue, IfSome, Result, cond}
+use Rattle.std.proofs.Common.{◌≡◌, ◌⊎◌, inl, inr, ℕ, suc, ◌+◌, ◌<◌, ◌≤◌, Bool, true, false, not, ◌&&◌, ◌||◌, ◌==◌, List, [], ◌∷◌, ◌++◌, Option, Some, None, length, drop, get_or, refl, ap, sym, ◌∙◌, subst, arith, nat_lt}
+use Rattle.std.specs.Prelude.{◌≢◌, IsTrue, IfSome, Result, cond}
 use Rattle.std.specs.BTreeSet.{BTreeSet, contains, Updates}
 use Rattle.std.specs.Ordering.{nat_cmp, is_eq}
 use Rattle.std.specs.declared.cmp.Ordering.TheVariants.{Less, Equal, Greater}
@@ -9,6 +9,7 @@ use Rattle.std.proofs.lemmas.Bool.Decides.{nat_tests}
 use Rattle.std.proofs.lemmas.List.{drop_all}
 use Rattle.spec_base.specs.Listed.{is_listed}
 use Rattle.spec_base.specs.declared.note.Move.{Move}
+use Rattle.spec_base.specs.declared.note.Move.TheVariants.{O}
 use Rattle.spec_base.specs.declared.note.Note.{Note}
 use Rattle.spec_base.specs.declared.note.Note.TheVariants.{Fill}
 use Rattle.rv_decode.specs.declared.instr.Instr.{Instr}
@@ -25,17 +26,20 @@ use Rattle.machine_laws.specs.OneMachine.{space_of_run}
 use Rattle.word_laws.specs.Shown.{own_core}
 use Rattle.hart_mem.specs.Held.{Held, space_of, data_byte}
 use Rattle.hart_mem.proofs.DataBytes.{data-is, memory-is, zero_off_data}
-use Rattle.hart_step.specs.Core.{core_of}
+use Rattle.hart_step.specs.Core.{Core}
 use Rattle.use_marks.specs.Along.{AreMarksOf, Completes, PassesMarks, numbers_of, numbers_from, numbers_then, numbers_by, completes_first_use, is_first_use, has_completed, has_restarted, own_instr, filled_by, tells_fill}
-use Rattle.use_marks.specs.Passing.{Sees, read_mark, touches_data, looks}
+use Rattle.use_marks.specs.Passing.{Sees, read_mark, touches_data, changed, ChangeFits}
+use Rattle.use_marks.specs.declared.passage.Passage.{Passage}
+use Rattle.use_marks.specs.declared.passage.MarkChange.TheVariants as to
 use Rattle.use_marks.specs.declared.read_mark.ReadMark.{ReadMark}
 use Rattle.use_marks.proofs.Completing.{completes-next}
+use Rattle.use_marks.proofs.Moved.{others-complete-nothing, same-count}
 use Rattle.use_marks.proofs.Along.{start-marks, quiet-marks, restart-marks, completed-marks, others-complete-none, notes-tell-fills, numbers-snoc}
 use Rattle.move_requests.proofs.Snoc.{moves_add_up}
 use Rattle.use_marks.specs.Marked.{marks_of}
 use Rattle.program_driver.specs.declared.uses.UseTrace.{UseTrace}
 use Rattle.program_driver.specs.declared.uses.Ahead.{Ahead}
-use Rattle.program_driver.specs.Uses.{KeepsUses, HasUses, IsAhead, use_line_if, is_fill}
+use Rattle.program_driver.specs.Uses.{KeepsUses, HasUses, IsAhead, Does, Stands, use_line_if, is_fill}
 use Rattle.program_driver.specs.Lines.{LinesTo}
 use Rattle.program_driver.specs.Traces.{move_lines, last_lines}
 use Rattle.program_driver.specs.declared.lines.LineFault.{LineFault}
@@ -43,7 +47,6 @@ use Rattle.world_io.specs.Outside.{SinkState}
 use Rattle.runner.specs.Shows.{Shows}
 use Rattle.runner.specs.declared.runner.Runner.{Runner}
 use Rattle.program_driver.proofs.Lining.{note-at}
-use Rattle.program_driver.proofs.Looking.{looking-leaves}
 
 -- ---- tests
 
@@ -151,81 +154,94 @@ module _ (w : World) (ms : Moves) (m : Move) (x : Answer) (marks : Marks) (unuse
   pub others-kept : (nat_lt 0 r.restarts && r.since.whole) ≡ false → has_restarted r next ≡ false → AreMarksOf w next (numbers_then numbers r next) marks unused
   others-kept e s = (others-complete-none w r (m, x) numbers marks unused s e).1
 
-  -- an instruction of it is completed
-  module _ (acc : Accepted w) (completed : has_completed r next ≡ true) (some : 0 < r.restarts) (whole : IsTrue r.since.whole) where
-    pub completes : (s : State) × Completes w r next s
+  -- where nothing is known of it before the move
+  pub unknown-first : ((nat_lt 0 r.restarts && r.since.whole) ≡ false) ⊎ (has_completed r next ≡ false) → false ≡ completes_first_use w numbers r next
+  unknown-first (inl e) = others-first e
+  unknown-first (inr e) = quiet-first e
+
+  pub unknown-kept : ((nat_lt 0 r.restarts && r.since.whole) ≡ false) ⊎ (has_completed r next ≡ false) → has_restarted r next ≡ false → AreMarksOf w next (numbers_then numbers r next) marks unused
+  unknown-kept (inl e) s = others-kept e s
+  unknown-kept (inr e) s = quiet-kept e s
+
+  -- an instruction of it is completed, of which it is known what it does
+  module _ (acc : Accepted w) (completed : has_completed r next ≡ true) (some : 0 < r.restarts) (whole : IsTrue r.since.whole) (p : Passage) (stands : Stands w r marks p) where
+    completes : (s : State) × Completes w r s
     completes = completes-next w acc ms (m, x) completed some whole
 
-    pub passes : PassesMarks w r next numbers marks unused completes.0
+    does : Does w r marks p completes.0
+    does = stands completes.0 completes.1
+
+    passes : PassesMarks w r next numbers marks unused completes.0
     passes = completed-marks w r (m, x) numbers marks unused completes.0 are completed some whole completes.1
 
-    -- there is none: nothing becomes of the marks
-    pub none-first : own_instr w r ≡ None → false ≡ completes_first_use w numbers r next
-    none-first none = sym (passes.first ∙ ap (λ o. unused && is_use w.image.layout completes.0 o marks) none ∙ no-more unused)
-      where
-        no-more : (b : Bool) → (b && false) ≡ false
-        no-more true = refl
-        no-more false = refl
+    pub passed-first : (unused && p.used) ≡ completes_first_use w numbers r next
+    passed-first = ap (λ b. unused && b) does.used ∙ sym passes.first
 
-    pub none-kept : own_instr w r ≡ None → AreMarksOf w next (numbers_then numbers r next) marks unused
-    none-kept none =
-        let told = subst (λ o. AreMarksOf w next (numbers_then numbers r next) (marks_after w.image.layout (is_listed r.since.filled (suc r.since.own)) completes.0 o marks) (unused && not (is_use w.image.layout completes.0 o marks))) none passes.marks in
-        subst (λ b. AreMarksOf w next (numbers_then numbers r next) marks b) (as-before unused) told
-      where
-        as-before : (b : Bool) → (b && not false) ≡ b
-        as-before true = refl
-        as-before false = refl
+    pub passed-kept : (after : Marks) → (ChangeFits p.change → after ≡ changed p.change marks) → AreMarksOf w next (numbers_then numbers r next) after (unused && not p.used)
+    passed-kept after then =
+        subst (λ a. AreMarksOf w next (numbers_then numbers r next) a (unused && not p.used)) (sym (then does.fits ∙ does.change))
+        (subst (λ b. AreMarksOf w next (numbers_then numbers r next) (marks_after w.image.layout (is_listed r.since.filled (suc r.since.own)) completes.0 (own_instr w r) marks) (unused && not b)) (sym does.used) passes.marks)
 
-    -- hart and memory show it
-    module _ (n_hart : _) (i : Instr) (read : ReadMark) (mem : Held)
-        (hart : core_of n_hart ≡ own_core r) (instr : own_instr w r ≡ Some i)
-        (is_read : read ≡ read_mark (is_listed r.since.filled (suc r.since.own)) (instr_action w.image.layout r.own (own_instr w r)))
-        (space : space_of mem ≡ space_of_run w next) where
-      same-registers : (core_of n_hart).registers ≡ r.own.registers
-      same-registers = ap (λ c. c.registers) hart
+-- ---- before a move
 
-      same-layout : (space_of mem).layout ≡ w.image.layout
-      unfolding space_of_run
-      same-layout = ap (λ p. p.layout) space
+-- hart and memory show the instruction that would be completed
+module _ (w : World) (r : Run) (s : State) (completes : Completes w r s) (core : Core) (mem : Held) (hart : core ≡ own_core r) (space : space_of mem ≡ space_of_run w r) where
+  same-registers : core.registers ≡ r.own.registers
+  same-registers = ap (λ c. c.registers) hart
 
-      same-program : (space_of mem).program ≡ next.own.memory
-      unfolding space_of_run
-      same-program = ap (λ p. p.program) space
+  same-layout : (space_of mem).layout ≡ w.image.layout
+  unfolding space_of_run
+  same-layout = ap (λ p. p.layout) space
 
-      data-here : data_in (data_byte (space_of mem)) ≡ is_data w.image.layout
-      data-here = data-is (space_of mem) ∙ ap is_data same-layout
+  same-program : (space_of mem).program ≡ r.own.memory
+  unfolding space_of_run
+  same-program = ap (λ p. p.program) space
 
-      pub sees : Sees (data_byte (space_of mem)) (core_of n_hart).registers i w.image.layout completes.0
-      sees = record {
-        same_register = λ k. completes.1.registers k ∙ ap (λ rs. reg rs k) (sym same-registers);
-        same_memory = λ l. record {
-          same_data = λ a. ap (λ t. t a) (sym data-here);
-          same_byte = λ a h. (
-              let leaves = looking-leaves w r m x i instr (subst (λ rs. looks rs i ≡ true) same-registers l) in
-              ap (λ t. t a) (completes.1.memory ∙ sym leaves ∙ sym same-program ∙ sym (memory-is (space_of mem) (zero_off_data mem))));
-        };
-      }
+  data-here : data_in (data_byte (space_of mem)) ≡ is_data w.image.layout
+  data-here = data-is (space_of mem) ∙ ap is_data same-layout
 
-      -- what it touches is data
-      pub touches : IsTrue (touches_data (is_data w.image.layout) (core_of n_hart).registers i)
-      touches = subst (λ rs. IsTrue (touches_data (is_data w.image.layout) rs i)) (sym same-registers) (completes.1.touches i instr)
+  pub sees : (i : Instr) → Sees (data_byte (space_of mem)) core.registers i w.image.layout s
+  sees i = record {
+    same_register = λ k. completes.registers k ∙ ap (λ rs. reg rs k) (sym same-registers);
+    same_memory = λ l. record {
+      same_data = λ a. ap (λ t. t a) (sym data-here);
+      same_byte = λ a h. ap (λ t. t a) (completes.memory ∙ sym same-program ∙ sym (memory-is (space_of mem) (zero_off_data mem)));
+    };
+  }
 
-      -- by the state's own action
-      pub reads : read ≡ read_mark (is_listed r.since.filled (suc r.since.own)) (instr_action w.image.layout completes.0 (Some i))
-      reads =
-          let f : Bool = is_listed r.since.filled (suc r.since.own) in
-          is_read ∙ ap (λ a. read_mark f a) (sym completes.1.action ∙ ap (instr_action w.image.layout completes.0) instr)
+  -- what it touches is data
+  pub touches : (i : Instr) → own_instr w r ≡ Some i → IsTrue (touches_data (is_data w.image.layout) core.registers i)
+  touches i instr = subst (λ rs. IsTrue (touches_data (is_data w.image.layout) rs i)) (sym same-registers) (completes.touches i instr)
 
-      pub some-first : (used : Bool) → used ≡ is_use w.image.layout completes.0 (Some i) marks → (unused && used) ≡ completes_first_use w numbers r next
-      some-first used is = ap (λ b. unused && b) (is ∙ ap (λ o. is_use w.image.layout completes.0 o marks) (sym instr)) ∙ sym passes.first
+  -- it reads the same by its state
+  pub reads : (i : Instr) (filled : Bool) (read : ReadMark) → own_instr w r ≡ Some i → read ≡ read_mark filled (instr_action w.image.layout r.own (Some i)) → read ≡ read_mark filled (instr_action w.image.layout s (Some i))
+  reads i filled read instr is =
+      is ∙ ap (λ o. read_mark filled (instr_action w.image.layout r.own o)) (sym instr)
+      ∙ ap (λ a. read_mark filled a) (sym completes.action) ∙ ap (λ o. read_mark filled (instr_action w.image.layout s o)) instr
 
-      pub some-kept : (used : Bool) (after : Marks) → used ≡ is_use w.image.layout completes.0 (Some i) marks
-          → after ≡ marks_after w.image.layout (is_listed r.since.filled (suc r.since.own)) completes.0 (Some i) marks
-          → AreMarksOf w next (numbers_then numbers r next) after (unused && not used)
-      some-kept used after is then =
-          let told = subst (λ o. AreMarksOf w next (numbers_then numbers r next) (marks_after w.image.layout (is_listed r.since.filled (suc r.since.own)) completes.0 o marks) (unused && not (is_use w.image.layout completes.0 o marks))) instr passes.marks in
-          subst (λ a. AreMarksOf w next (numbers_then numbers r next) a (unused && not used)) (sym then)
-          (subst (λ b. AreMarksOf w next (numbers_then numbers r next) (marks_after w.image.layout (is_listed r.since.filled (suc r.since.own)) completes.0 (Some i) marks) (unused && not b)) (sym is) told)
+  pub does-some : (i : Instr) (marks : Marks) (p : Passage) → own_instr w r ≡ Some i → p.used ≡ is_use w.image.layout s (Some i) marks
+      → changed p.change marks ≡ marks_after w.image.layout (is_listed r.since.filled (suc r.since.own)) s (Some i) marks → ChangeFits p.change → Does w r marks p s
+  does-some i marks p instr used change fits = record {
+    used = used ∙ ap (λ o. is_use w.image.layout s o marks) (sym instr);
+    change = change ∙ ap (λ o. marks_after w.image.layout (is_listed r.since.filled (suc r.since.own)) s o marks) (sym instr);
+    fits = fits;
+  }
+
+-- where there is none, it does nothing
+pub does-none : (w : World) (r : Run) (s : State) (marks : Marks) → own_instr w r ≡ None → Does w r marks (record { used = false; change = to.None }) s
+does-none w r s marks none = record {
+  used = ap (λ o. is_use w.image.layout s o marks) (sym none);
+  change = ap (λ o. marks_after w.image.layout (is_listed r.since.filled (suc r.since.own)) s o marks) (sym none);
+  fits = tt;
+}
+
+-- no move but one of the own hart completes any
+pub other-completes-none : (w : World) (r : Run) (m : Move) (x : Answer) → m ≢ O → has_completed r (step w r (m, x)) ≡ false
+other-completes-none w r m x other = by (others-complete-nothing w r m x)
+  where
+    by : (m ≡ O) ⊎ ((step w r (m, x)).own_done ≡ r.own_done) → has_completed r (step w r (m, x)) ≡ false
+    by (inl own) = absurd (other own)
+    by (inr same) = same-count r.own_done (step w r (m, x)).own_done same
 
 -- ---- what is kept behind a move
 
@@ -270,8 +286,8 @@ start-keeps w u empty = record { marks = start-marks w (marks_of u.marks) u.unus
 -- what is put, by what is told of the first use, is the lines of the move
 pub put-as-move :
     (kept : UseTrace) (look : Option Ahead) (used : Bool) (answer : Result (Unit {0}) LineFault) (m : Move) (now new : Runner) (out out_after : SinkState)
-    → ((w : World) (ms : Moves) → Accepted w → Shows now w (run w ms) → HasUses w ms kept → IfSome look (λ a. IsAhead w (run w ms) a))
-    → ((w : World) (ms : Moves) (m : Move) (x : Answer) → Accepted w → IfSome look (λ a. IsAhead w (run w ms) a) → Shows new w (step w (run w ms) (m, x)) → HasUses w ms kept
+    → ((w : World) (ms : Moves) → Accepted w → Shows now w (run w ms) → HasUses w ms kept → IfSome look (λ a. IsAhead w (run w ms) m (marks_of kept.marks) a))
+    → ((w : World) (ms : Moves) (m : Move) (x : Answer) → Accepted w → IfSome look (λ a. IsAhead w (run w ms) m (marks_of kept.marks) a) → Shows new w (step w (run w ms) (m, x)) → HasUses w ms kept
     → used ≡ (kept.on && completes_first_use w (numbers_of w ms) (run w ms) (step w (run w ms) (m, x))))
     → ((w : World) (r : Run) → Shows new w r → LinesTo (use_line_if used r ++ last_lines r) answer out out_after)
     → (w : World) (ms : Moves) (x : Answer) → Accepted w → HasUses w ms kept → Shows now w (run w ms) → let next : Run = step w (run w ms) (m, x) in Shows new w next

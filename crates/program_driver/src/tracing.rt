@@ -86,7 +86,7 @@ fn trace_move<D: Store, O: Sink>(
         (record { store = D.state store.new; out = O.state out.new; err = err })) }
     ensures goes_on { result ≡ None → runner.new.end ≡ None }
 {
-    let ahead = uses.look(runner);
+    let ahead = uses.look(step, runner);
     let reached = advance(
         runner,
         step,

@@ -14,17 +14,16 @@ ghost use Rattle.use_marks.specs.Marked.{marks_of};
 ghost use Rattle.run_model.specs.Marks.{no_marks};
 ghost use Rattle.use_marks.specs.Passing.{read_mark};
 ghost use Rattle.runner.specs.Shows.{Shows};
-ghost use Rattle.program_driver.specs.Uses.{HasUses, KeepsUses, IsAhead, StandsIf, is_fill};
+ghost use Rattle.program_driver.specs.Uses.{HasUses, KeepsUses, IsAhead, Stands, StandsIf, is_fill};
 
 use file_calls::PlannedCall;
-use hart_step::Hart;
 use runner::Runner;
 use runner_parts::{both, plan_of_own};
 use rv_decode::Instr;
-use spec_base::{NoMemory, Note, View};
+use spec_base::{Move, NoMemory, Note, View};
 use std::alloc::Global;
 use std::collections::BTreeSet;
-use use_marks::{Marks, ReadMark};
+use use_marks::{MarkChange, Marks, Passage, ReadMark};
 
 /// What is kept along a trace to tell the first use of each run from a restart: the marks, whether no
 /// instruction was a use, and of each read that the shadow filled how many instructions come before it.
@@ -36,21 +35,14 @@ pub(crate) struct UseTrace {
     unused: bool,
 }
 
-/// The own hart before a move, the instruction that it would complete, and what read that is.
-#[derive(Clone, Copy, Debug)]
-pub(crate) struct NextInstr {
-    hart: Hart,
-    instr: Option<Instr>,
-    read: ReadMark,
-}
-
-/// The counts before a move, and where the own hart stands if the run from a restart is followed.
+/// The counts before a move, and what the own hart's next instruction does to the marks, if the move may
+/// complete one of the run from a restart.
 #[derive(Clone, Copy, Debug)]
 pub(crate) struct Ahead {
     own: u64,
     shadow: u64,
     restarts: u64,
-    next: Option<NextInstr>,
+    next: Option<Passage>,
 }
 
 /// The instruction that the own hart would complete: the call in its registers while it is in the
@@ -131,20 +123,26 @@ impl UseTrace {
         }
     }
 
-    // The same, if there is one.
-    fn next_read(&self, runner: &Runner, instr: &Option<Instr>) -> ReadMark
+    // What an instruction does to the marks, if there is one.
+    fn passage(&self, runner: &Runner, instr: &Option<Instr>) -> Passage
         ensures { (w : World) (r : Run) → Shows runner.now w r → ((n : ℕ) → contains nat_cmp self.now.filled n ≡ is_listed r.since.filled (suc n))
-            → result ≡ read_mark (is_listed r.since.filled (suc r.since.own)) (instr_action w.image.layout r.own instr.now) }
+            → instr.now ≡ own_instr w r → Stands w r (marks_of self.now.marks) result }
     {
         match instr {
-            Some(instr) => self.instr_read(runner, instr),
-            None => ReadMark::None,
+            Some(instr) => {
+                let read = self.instr_read(runner, instr);
+                self.marks.look(instr, runner.own(), runner.mem(), read)
+            }
+            None => Passage {
+                used: false,
+                change: MarkChange::None,
+            },
         }
     }
 
-    // Where the own hart stands, if the run from a restart is followed.
-    fn next_instr(&self, runner: &Runner) -> Option<NextInstr>
-        ensures { (w : World) (ms : Moves) → Accepted w → Shows runner.now w (run w ms) → KeepsUses w ms self.now → StandsIf w (run w ms) result }
+    // The same of the own hart's next instruction, if the run from a restart is followed.
+    fn next_passage(&self, runner: &Runner) -> Option<Passage>
+        ensures { (w : World) (ms : Moves) (m : Move) → Accepted w → Shows runner.now w (run w ms) → KeepsUses w ms self.now → StandsIf w (run w ms) m (marks_of self.now.marks) result }
     {
         if runner.restarts() == 0 {
             return None;
@@ -152,18 +150,25 @@ impl UseTrace {
         if !runner.whole() {
             return None;
         }
-        let instr = own_instr(runner);
-        Some(NextInstr {
-            hart: *runner.own(),
-            instr,
-            read: self.next_read(runner, &instr),
-        })
+        Some(self.passage(runner, &own_instr(runner)))
+    }
+
+    // The same before a move: only one of the own hart completes an instruction.
+    fn move_passage(&self, step: Move, runner: &Runner) -> Option<Passage>
+        ensures { (w : World) (ms : Moves) → Accepted w → Shows runner.now w (run w ms) → KeepsUses w ms self.now → StandsIf w (run w ms) step (marks_of self.now.marks) result }
+    {
+        match step {
+            Move::O => self.next_passage(runner),
+            Move::S => None,
+            Move::T => None,
+            Move::D => None,
+        }
     }
 
     /// What is to be known before a move, where uses are told.
-    pub(crate) fn look(&self, runner: &Runner) -> Option<Ahead>
+    pub(crate) fn look(&self, step: Move, runner: &Runner) -> Option<Ahead>
         ensures asked { is_some result ≡ self.now.on }
-        ensures ahead { (w : World) (ms : Moves) → Accepted w → Shows runner.now w (run w ms) → HasUses w ms self.now → IfSome result (λ a. IsAhead w (run w ms) a) }
+        ensures ahead { (w : World) (ms : Moves) → Accepted w → Shows runner.now w (run w ms) → HasUses w ms self.now → IfSome result (λ a. IsAhead w (run w ms) step (marks_of self.now.marks) a) }
     {
         if !self.on {
             return None;
@@ -172,16 +177,16 @@ impl UseTrace {
             own: runner.own_done(),
             shadow: runner.shadow_done(),
             restarts: runner.restarts(),
-            next: self.next_instr(runner),
+            next: self.move_passage(step, runner),
         })
     }
 
     // Takes the marks past the instruction that the own hart completed in a move, if it did, and tells
     // whether that is the first use.
     fn pass(&mut self, ahead: &Ahead, runner: &Runner) -> Result<bool, NoMemory>
-        ensures first { IfOk result (λ first. (w : World) (ms : Moves) (m : Move) (x : Answer) → Accepted w → IsAhead w (run w ms) ahead.now → Shows runner.now w (step w (run w ms) (m, x)) →
+        ensures first { IfOk result (λ first. (w : World) (ms : Moves) (m : Move) (x : Answer) → Accepted w → IsAhead w (run w ms) m (marks_of self.old.marks) ahead.now → Shows runner.now w (step w (run w ms) (m, x)) →
             AreMarksOf w (run w ms) (numbers_of w ms) (marks_of self.old.marks) self.old.unused → first ≡ completes_first_use w (numbers_of w ms) (run w ms) (step w (run w ms) (m, x))) }
-        ensures marks { OnOk result ((w : World) (ms : Moves) (m : Move) (x : Answer) → Accepted w → IsAhead w (run w ms) ahead.now → Shows runner.now w (step w (run w ms) (m, x)) →
+        ensures marks { OnOk result ((w : World) (ms : Moves) (m : Move) (x : Answer) → Accepted w → IsAhead w (run w ms) m (marks_of self.old.marks) ahead.now → Shows runner.now w (step w (run w ms) (m, x)) →
             AreMarksOf w (run w ms) (numbers_of w ms) (marks_of self.old.marks) self.old.unused → has_restarted (run w ms) (step w (run w ms) (m, x)) ≡ false →
             AreMarksOf w (step w (run w ms) (m, x)) (numbers_then (numbers_of w ms) (run w ms) (step w (run w ms) (m, x))) (marks_of self.new.marks) self.new.unused) }
         ensures on { self.new.on ≡ self.old.on }
@@ -193,12 +198,9 @@ impl UseTrace {
         let Some(next) = &ahead.next else {
             return Ok(false);
         };
-        let Some(instr) = &next.instr else {
-            return Ok(false);
-        };
-        let used = self.marks.pass(instr, &next.hart, runner.mem(), next.read)?;
-        let first = both(self.unused, used);
-        self.unused = both(self.unused, !used);
+        self.marks.pass(next.change)?;
+        let first = both(self.unused, next.used);
+        self.unused = both(self.unused, !next.used);
         Ok(first)
     }
 
@@ -232,9 +234,9 @@ impl UseTrace {
 
     // Takes over a move that was made, and tells whether it completed the first use.
     fn learn_made(&mut self, ahead: &Ahead, runner: &Runner) -> Result<bool, NoMemory>
-        ensures first { IfOk result (λ first. (w : World) (ms : Moves) (m : Move) (x : Answer) → Accepted w → IsAhead w (run w ms) ahead.now → Shows runner.now w (step w (run w ms) (m, x)) →
+        ensures first { IfOk result (λ first. (w : World) (ms : Moves) (m : Move) (x : Answer) → Accepted w → IsAhead w (run w ms) m (marks_of self.old.marks) ahead.now → Shows runner.now w (step w (run w ms) (m, x)) →
             KeepsUses w ms self.old → first ≡ completes_first_use w (numbers_of w ms) (run w ms) (step w (run w ms) (m, x))) }
-        ensures keeps { OnOk result ((w : World) (ms : Moves) (m : Move) (x : Answer) → Accepted w → IsAhead w (run w ms) ahead.now → Shows runner.now w (step w (run w ms) (m, x)) →
+        ensures keeps { OnOk result ((w : World) (ms : Moves) (m : Move) (x : Answer) → Accepted w → IsAhead w (run w ms) m (marks_of self.old.marks) ahead.now → Shows runner.now w (step w (run w ms) (m, x)) →
             KeepsUses w ms self.old → KeepsUses w (ms ++ (m, x) ∷ []) self.new) }
         ensures on { self.new.on ≡ self.old.on }
     {
@@ -251,9 +253,9 @@ impl UseTrace {
     /// the first use in it. `NoMemory` comes only where uses are told; then all that is kept is lost.
     pub(crate) fn learn(&mut self, ahead: &Option<Ahead>, runner: &Runner) -> Result<bool, NoMemory>
         requires { is_some ahead.now ≡ self.old.on }
-        ensures first { IfOk result (λ first. (w : World) (ms : Moves) (m : Move) (x : Answer) → Accepted w → IfSome ahead.now (λ a. IsAhead w (run w ms) a) → Shows runner.now w (step w (run w ms) (m, x)) →
+        ensures first { IfOk result (λ first. (w : World) (ms : Moves) (m : Move) (x : Answer) → Accepted w → IfSome ahead.now (λ a. IsAhead w (run w ms) m (marks_of self.old.marks) a) → Shows runner.now w (step w (run w ms) (m, x)) →
             HasUses w ms self.old → first ≡ (self.old.on && completes_first_use w (numbers_of w ms) (run w ms) (step w (run w ms) (m, x)))) }
-        ensures keeps { OnOk result ((w : World) (ms : Moves) (m : Move) (x : Answer) → Accepted w → IfSome ahead.now (λ a. IsAhead w (run w ms) a) → Shows runner.now w (step w (run w ms) (m, x)) →
+        ensures keeps { OnOk result ((w : World) (ms : Moves) (m : Move) (x : Answer) → Accepted w → IfSome ahead.now (λ a. IsAhead w (run w ms) m (marks_of self.old.marks) a) → Shows runner.now w (step w (run w ms) (m, x)) →
             HasUses w ms self.old → HasUses w (ms ++ (m, x) ∷ []) self.new) }
         ensures on { self.new.on ≡ self.old.on }
         ensures err { OnErr result (self.old.on ≡ true) }

@@ -1,6 +1,7 @@
 use Rattle.std.proofs.Common.{◌≡◌, ◌∙◌, ◌&&◌, ap, sym, subst, true, false}
 use Rattle.std.specs.Prelude.{is_some, IfSome, Result, Ok, Err, OnErr}
 use Rattle.run_model.specs.Moves.{run, step}
+use Rattle.use_marks.specs.Marked.{marks_of}
 use Rattle.use_marks.specs.Along.{numbers_of, completes_first_use}
 use Rattle.program_driver.specs.Uses.{IsAhead}
 use Rattle.program_driver.proofs.uses.UseTrace.learn.Goals as goal
@@ -25,10 +26,10 @@ returns-in_err-first-clause-err c = on-err c.from_residual.result (sym c.require
 pub returns-clause-first : goal.returns-clause-first
 returns-clause-first c w ms m x acc ahead shows has =
     let on : c.args.self.now.on ≡ true = sym c.requires ∙ ap is_some c.in-Some.is in
-    c.in_ok-first.ensures.first w ms m x acc (subst (λ o. IfSome o (λ a. IsAhead w (run w ms) a)) c.in-Some.is ahead) shows (has on)
+    c.in_ok-first.ensures.first w ms m x acc (subst (λ o. IfSome o (λ a. IsAhead w (run w ms) m (marks_of c.args.self.now.marks) a)) c.in-Some.is ahead) shows (has on)
     ∙ ap (λ b. b && completes_first_use w (numbers_of w ms) (run w ms) (step w (run w ms) (m, x))) (sym on)
 
 pub returns-clause-keeps : goal.returns-clause-keeps
 returns-clause-keeps c w ms m x acc ahead shows has after =
     let on : c.args.self.now.on ≡ true = sym c.requires ∙ ap is_some c.in-Some.is in
-    c.in_ok-first.ensures.keeps w ms m x acc (subst (λ o. IfSome o (λ a. IsAhead w (run w ms) a)) c.in-Some.is ahead) shows (has on)
+    c.in_ok-first.ensures.keeps w ms m x acc (subst (λ o. IfSome o (λ a. IsAhead w (run w ms) m (marks_of c.args.self.now.marks) a)) c.in-Some.is ahead) shows (has on)

@@ -16,5 +16,5 @@ returns-clause-ahead c w ms acc shows has =
       own = c.own_done.ensures w r shows;
       shadow = c.shadow_done.ensures w r shows;
       restarts = c.restarts.ensures w r shows;
-      next = c.next_instr.ensures w ms acc shows (has c.if-not-self.false);
+      next = c.move_passage.ensures w ms acc shows (has c.if-not-self.false);
     }
