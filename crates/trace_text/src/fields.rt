@@ -5,7 +5,7 @@ ghost use Rattle.trace_text.specs.Grammar.{words_of, call_in, text_in, read_in, 
 ghost use Rattle.trace_text.specs.Ranges.{IsReadInRange, IsNoteInRange, IsInRange};
 
 use crate::keyword::{Keyword, park_named, trap_named};
-use crate::numbers::{address, answer, decimal, name_of, number, text_count};
+use crate::numbers::{address, answer, decimal, decimal_within, name_of, text_count};
 use crate::trace_line::TraceBody;
 use crate::words::{five, one, three, two};
 use spec_base::{BlockSpot, Note, ReadSpot};
@@ -36,7 +36,7 @@ fn text(fields: &[u8]) -> Option<Note>
     ensures range { IfSome result IsNoteInRange }
 {
     let (first, second) = two(fields)?;
-    let to = number(first, 10, 2)?;
+    let to = decimal_within(first, 2)?;
     let count = text_count(second)?;
     if to == 0 {
         None
@@ -55,8 +55,8 @@ fn read(fields: &[u8]) -> Option<ReadSpot>
 {
     let (first, second, third) = three(fields)?;
     let name = name_of(first)?;
-    let offset = number(second, 10, (1 << 56) - 1)?;
-    let count = number(third, 10, 65_536)?;
+    let offset = decimal_within(second, (1 << 56) - 1)?;
+    let count = decimal_within(third, 65_536)?;
     Some(ReadSpot {
         name,
         offset,
@@ -70,7 +70,7 @@ fn block(fields: &[u8]) -> Option<BlockSpot>
 {
     let (first, second) = two(fields)?;
     let name = name_of(first)?;
-    let block = number(second, 10, (1 << 44) - 1)?;
+    let block = decimal_within(second, (1 << 44) - 1)?;
     Some(BlockSpot { name, block })
 }
 
@@ -80,7 +80,7 @@ fn exit(fields: &[u8]) -> Option<Note>
     ensures range { IfSome result IsNoteInRange }
 {
     let word = one(fields)?;
-    let code = number(word, 10, 255)?;
+    let code = decimal_within(word, 255)?;
     Some(Note::Exit(code as u8))
 }
 

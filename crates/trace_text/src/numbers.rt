@@ -49,11 +49,41 @@ pub fn number(word: &[u8], base: u64, most: u64) -> Option<u64>
     if value <= most { Some(value) } else { None }
 }
 
+/// The value of a decimal digit. It is 10 of any other byte.
+fn decimal_digit(byte: u8) -> u8
+    ensures few { result < 10 → result ≡ digit_of byte }
+    ensures other { 10 ≤ result → 10 ≤ digit_of byte }
+{
+    match byte {
+        b'0'..=b'9' => byte - b'0',
+        _ => 10,
+    }
+}
+
+/// A decimal number of at most `most` without leading zeros.
+pub fn decimal_within(word: &[u8], most: u64) -> Option<u64>
+    ensures value { result ≡ number_in 10 most word.now }
+    ensures bound { IfSome result (λ n. n ≤ most) }
+{
+    if !begins_as_number(word) {
+        return None;
+    }
+    let mut value: u64 = 0;
+    for byte in word {
+        let digit = decimal_digit(*byte);
+        if digit >= 10 {
+            return None;
+        }
+        value = value.checked_mul(10)?.checked_add(u64::from(digit))?;
+    }
+    if value <= most { Some(value) } else { None }
+}
+
 /// A decimal number of 64 bits.
 pub fn decimal(word: &[u8]) -> Option<u64>
     ensures { result ≡ decimal_in word.now }
 {
-    number(word, 10, u64::MAX)
+    decimal_within(word, u64::MAX)
 }
 
 /// A signed decimal number of 64 bits. `-0` is none.
@@ -63,14 +93,14 @@ pub fn answer(word: &[u8]) -> Option<i64>
 {
     match word.strip_prefix(b"-") {
         Some(digits) => {
-            let magnitude = number(digits, 10, 1 << 63)?;
+            let magnitude = decimal_within(digits, 1 << 63)?;
             if magnitude == 0 {
                 None
             } else {
                 Some(-1 - (magnitude - 1) as i64)
             }
         }
-        None => Some(number(word, 10, i64::MAX as u64)? as i64),
+        None => Some(decimal_within(word, i64::MAX as u64)? as i64),
     }
 }
 
