@@ -128,6 +128,72 @@ fn used(fields: &[u8]) -> Option<TraceBody>
     Some(TraceBody::Use(number))
 }
 
+// Each of these has a read or a block of its own, so that a line pays for one of them alone.
+
+#[tactic(auto, unfolding(crate::specs::Grammar::fields_in))]
+fn matched(fields: &[u8]) -> Option<TraceBody>
+    ensures value { result ≡ fields_in Keyword.Match (words_of fields.now) }
+    ensures range { IfSome result IsInRange }
+{
+    Some(TraceBody::Note(Note::Match(read(fields)?)))
+}
+
+#[tactic(auto, unfolding(crate::specs::Grammar::fields_in))]
+fn restarted(fields: &[u8]) -> Option<TraceBody>
+    ensures value { result ≡ fields_in Keyword.Restart (words_of fields.now) }
+    ensures range { IfSome result IsInRange }
+{
+    Some(TraceBody::Note(Note::Restart(read(fields)?)))
+}
+
+#[tactic(auto, unfolding(crate::specs::Grammar::fields_in))]
+fn hinted(fields: &[u8]) -> Option<TraceBody>
+    ensures value { result ≡ fields_in Keyword.Hint (words_of fields.now) }
+    ensures range { IfSome result IsInRange }
+{
+    Some(TraceBody::Note(Note::Hint(read(fields)?)))
+}
+
+#[tactic(auto, unfolding(crate::specs::Grammar::fields_in))]
+fn filled(fields: &[u8]) -> Option<TraceBody>
+    ensures value { result ≡ fields_in Keyword.Fill (words_of fields.now) }
+    ensures range { IfSome result IsInRange }
+{
+    Some(TraceBody::Note(Note::Fill(read(fields)?)))
+}
+
+#[tactic(auto, unfolding(crate::specs::Grammar::fields_in))]
+fn stalled(fields: &[u8]) -> Option<TraceBody>
+    ensures value { result ≡ fields_in Keyword.Stall (words_of fields.now) }
+    ensures range { IfSome result IsInRange }
+{
+    Some(TraceBody::Note(Note::Stall(block(fields)?)))
+}
+
+#[tactic(auto, unfolding(crate::specs::Grammar::fields_in))]
+fn fetched(fields: &[u8]) -> Option<TraceBody>
+    ensures value { result ≡ fields_in Keyword.Fetch (words_of fields.now) }
+    ensures range { IfSome result IsInRange }
+{
+    Some(TraceBody::Note(Note::Fetch(block(fields)?)))
+}
+
+#[tactic(auto, unfolding(crate::specs::Grammar::fields_in))]
+fn dropped(fields: &[u8]) -> Option<TraceBody>
+    ensures value { result ≡ fields_in Keyword.Drop (words_of fields.now) }
+    ensures range { IfSome result IsInRange }
+{
+    Some(TraceBody::Note(Note::Drop(block(fields)?)))
+}
+
+#[tactic(auto, unfolding(crate::specs::Grammar::fields_in))]
+fn lost(fields: &[u8]) -> Option<TraceBody>
+    ensures value { result ≡ fields_in Keyword.Lost (words_of fields.now) }
+    ensures range { IfSome result IsInRange }
+{
+    Some(TraceBody::Note(Note::Lost(block(fields)?)))
+}
+
 /// What the fields behind a keyword say.
 #[tactic(auto, unfolding(crate::specs::Grammar::fields_in))]
 pub fn body_behind(keyword: Keyword, fields: &[u8]) -> Option<TraceBody>
@@ -135,21 +201,21 @@ pub fn body_behind(keyword: Keyword, fields: &[u8]) -> Option<TraceBody>
     ensures range { IfSome result IsInRange }
 {
     let note = match keyword {
+        Keyword::Match => return matched(fields),
+        Keyword::Restart => return restarted(fields),
+        Keyword::Stall => return stalled(fields),
+        Keyword::Hint => return hinted(fields),
+        Keyword::Fill => return filled(fields),
+        Keyword::Fetch => return fetched(fields),
+        Keyword::Drop => return dropped(fields),
+        Keyword::Lost => return lost(fields),
+        Keyword::Use => return used(fields),
         Keyword::Call => call(fields)?,
         Keyword::Text => text(fields)?,
-        Keyword::Match => Note::Match(read(fields)?),
-        Keyword::Restart => Note::Restart(read(fields)?),
-        Keyword::Stall => Note::Stall(block(fields)?),
-        Keyword::Hint => Note::Hint(read(fields)?),
-        Keyword::Fill => Note::Fill(read(fields)?),
         Keyword::Park => parked(fields)?,
-        Keyword::Fetch => Note::Fetch(block(fields)?),
-        Keyword::Drop => Note::Drop(block(fields)?),
-        Keyword::Lost => Note::Lost(block(fields)?),
         Keyword::Exit => exit(fields)?,
         Keyword::Trap => trapped(fields)?,
         Keyword::Fault => fault(fields)?,
-        Keyword::Use => return used(fields),
     };
     Some(TraceBody::Note(note))
 }
