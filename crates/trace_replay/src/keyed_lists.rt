@@ -69,13 +69,14 @@ impl KeyedLists {
         Ok(())
     }
 
-    // Whether a hint of the block has no use. No block is demanded between two calls.
+    // Whether a hint of the block has no use. No block is demanded between two calls. Whether the queue is
+    // full is asked first: it takes no look-up.
     fn is_idle(&self, key: &SmallSpot) -> bool
         ensures { result ≡ is_idle_key self.now key.now }
     {
-        self.cached.contains(key)
+        self.queue.cap().get() <= self.queue.len()
             || self.queue.contains(key)
-            || self.queue.cap().get() <= self.queue.len()
+            || self.cached.contains(key)
     }
 
     /// Caches the oldest queued block; false where none is queued. After `NoMemory` the lists aren't
