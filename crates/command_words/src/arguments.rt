@@ -1,6 +1,6 @@
 //! The words that a command acts on.
 
-ghost use Rattle.std.specs.Prelude.{◌≡◌, [], ◌∷◌, ◌++◌, IfOk, map, string_bytes};
+ghost use Rattle.std.specs.Prelude.{◌≡◌, [], ◌∷◌, ◌++◌, OnOk, OnErr, map, string_bytes};
 
 use spec_base::NoMemory;
 use std::alloc::Global;
@@ -30,9 +30,10 @@ impl Arguments {
         }
     }
 
-    /// Puts a word behind the others.
+    /// Puts a word behind the others. After `NoMemory` the words are as before.
     pub fn push(&mut self, alloc: Global, word: &str) -> Result<(), NoMemory>
-        ensures { IfOk result (λ _. self.new ≡ self.old ++ word.now ∷ []) }
+        ensures ok { OnOk result (self.new ≡ self.old ++ word.now ∷ []) }
+        ensures err { OnErr result (self.new ≡ self.old) }
     {
         let word = String::from_str(alloc, word)?;
         self.words.push(word)?;

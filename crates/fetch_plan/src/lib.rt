@@ -9,7 +9,7 @@ mod plan_made;
 mod planning;
 mod traces;
 
-pub use numbering::{NeedsFault, Numbering, needs};
+pub use numbering::{NeedsFault, needs};
 pub use plan_made::Plan;
 pub use planning::plan;
 pub use traces::{PlanFault, PlanTotals, plan_trace};

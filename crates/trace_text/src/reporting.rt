@@ -1,6 +1,6 @@
 //! The report of a run.
 
-ghost use Rattle.std.specs.Prelude.{◌≡◌, ◌++◌, codes, decimal, IfOk, OnOk};
+ghost use Rattle.std.specs.Prelude.{◌≡◌, ◌++◌, ◌⊎◌, codes, decimal, IfOk, OnOk, OnErr};
 ghost use Rattle.trace_text.specs.Report.{report_of, state_text};
 
 use crate::keyword::park_text;
@@ -32,9 +32,10 @@ pub struct Counts {
 /// No report has more bytes.
 const MOST_LENGTH: usize = 256;
 
-/// Adds a label and a number.
+/// Adds a label and a number. After `NoMemory` the line has none of these, or the label alone.
 pub fn push_count(line: &mut Vec<u8>, label: &[u8], count: u64) -> Result<(), NoMemory>
-    ensures { OnOk result (line.new.items ≡ line.old.items ++ (label.now ++ decimal count)) }
+    ensures ok { OnOk result (line.new.items ≡ line.old.items ++ (label.now ++ decimal count)) }
+    ensures err { OnErr result ((line.new.items ≡ line.old.items) ⊎ (line.new.items ≡ line.old.items ++ label.now)) }
 {
     line.extend_from_slice(label)?;
     line.extend_from_slice(Buffer::new().format(count).as_bytes())?;
