@@ -29,6 +29,7 @@ use Rattle.machine_laws.proofs.PatchedWords.{patched_decodes, patched-bits}
 use Rattle.machine_laws.proofs.Fits.{Each, none, one, joined, words_decode, word-bits}
 use Rattle.machine_laws.proofs.Emitted.{stub-has, helpers-have}
 use Rattle.machine_laws.proofs.EmittedBlocks.{block-has, guard-has}
+use Rattle.std.proofs.lemmas.List.{length-map}
 
 -- ---- words that decode to given instructions
 
@@ -161,11 +162,6 @@ fetches_same w a r pc = record { program = program-fetch w r pc; stub = stub-fet
 
 -- ---- the code as a whole
 
--- a mapped list is as long
-as-long : {A B : Type 0} (f : A → B) (xs : List A) → length (map f xs) ≡ length xs
-as-long f [] = refl
-as-long f (x ∷ xs) = ap suc (as-long f xs)
-
 -- each word that is patched has 32 bits
 text-bits : (words : List ℕ) → All (λ word. word < 2 ^ 32) words → All (λ word. word < 2 ^ 32) (map patched_word words)
 text-bits words h = All-map (λ word. word < 2 ^ 32) patched_word words (All-weaker (λ word. word < 2 ^ 32) (λ word. patched_word word < 2 ^ 32) patched-bits words h)
@@ -173,7 +169,7 @@ text-bits words h = All-map (λ word. word < 2 ^ 32) patched_word words (All-wea
 module _ (w : World) (a : Accepted w) (r : Run) where
   text-words : AreWords (space_of_run w r).text (length w.image.words)
   unfolding space_of_run
-  text-words = record { as_many = as-long patched_word w.image.words; bits = text-bits w.image.words a.words }
+  text-words = record { as_many = length-map w.image.words patched_word; bits = text-bits w.image.words a.words }
 
   shadow-words : AreWords (space_of_run w r).shadow (16 * (length w.image.words + 1))
   unfolding space_of_run
@@ -182,17 +178,17 @@ module _ (w : World) (a : Accepted w) (r : Run) where
       let blocks : List (List Instr) = blocks_from l l.text_start (text_of w.image) in
       let e : length (shadow_text w) ≡ 16 * length blocks = text-length (blocks-in_sixteens l l.text_start (text_of w.image)) in
       let n : length blocks ≡ length (text_of w.image) + 1 = blocks-length l l.text_start (text_of w.image) in
-      let m : length (text_of w.image) ≡ length w.image.words = as-long instr_of w.image.words in
-      let k : length (map word_of (shadow_text w)) ≡ length (shadow_text w) = as-long word_of (shadow_text w) in
+      let m : length (text_of w.image) ≡ length w.image.words = length-map w.image.words instr_of in
+      let k : length (map word_of (shadow_text w)) ≡ length (shadow_text w) = length-map (shadow_text w) word_of in
       record { as_many = k ∙ e ∙ ap (λ (i : ℕ). 16 * i) (n ∙ ap (λ (i : ℕ). i + 1) m); bits = word-bits (shadow-has w a) }
 
   helpers-words : AreWords (space_of_run w r).helpers helper_words
   unfolding space_of_run
-  helpers-words = record { as_many = as-long word_of (helpers w.image.layout); bits = word-bits (helpers-have w.image.layout) }
+  helpers-words = record { as_many = length-map (helpers w.image.layout) word_of; bits = word-bits (helpers-have w.image.layout) }
 
   stub-words : AreWords (space_of_run w r).stub stub_words
   unfolding space_of_run
-  stub-words = record { as_many = as-long word_of stub; bits = word-bits stub-has }
+  stub-words = record { as_many = length-map stub word_of; bits = word-bits stub-has }
 
 pub code_is_words : CodeIsWords
 code_is_words w a r = record { text = text-words w a r; shadow = shadow-words w a r; helpers = helpers-words w a r; stub = stub-words w a r }

@@ -1,5 +1,5 @@
 -- Which instructions of the emitted code have a word: immediates that fit, and a test of an instruction whose fields are numerals.
-use Rattle.std.proofs.Common.{◌≡◌, ℕ, zero, suc, ◌+◌, ◌*◌, ◌%◌, ◌^◌, ◌≤◌, ◌<◌, Bool, true, false, ◌&&◌, ℤ, pos, negsuc, List, [], ◌∷◌, ◌++◌, map, take, drop, nat_lt, ◌==◌, refl, arith}
+use Rattle.std.proofs.Common.{◌≡◌, ℕ, zero, suc, ◌+◌, ◌*◌, ◌%◌, ◌^◌, ◌≤◌, ◌<◌, Bool, true, false, ◌&&◌, ℤ, pos, negsuc, List, [], ◌∷◌, ◌++◌, map, take, drop, nat_lt, ◌==◌, refl, arith, ltb-true}
 use Rattle.std.specs.Prelude.{unsigned_abs, All}
 use Rattle.std.proofs.lemmas.List.Elements.{All-nil, All-cons}
 use Rattle.std.proofs.lemmas.Int.{ints}
@@ -102,9 +102,6 @@ both : (a b : Bool) → (a && b) ≡ true → (a ≡ true) × (b ≡ true)
 both true b e = (refl, e)
 both false b e = absurd cc
 
-below : (a n : ℕ) → nat_lt a n ≡ true → a < n
-below a n e = grind (arith, nat_tests)
-
 near-12 : (z : ℤ) → is_near 2048 z ≡ true → FitsIn 12 z
 near-12 (pos n) e = grind (arith, ints, nat_tests)
 near-12 (negsuc n) e = grind (arith, ints, nat_tests)
@@ -144,38 +141,38 @@ pub has : (i : Instr) → passes i ≡ true → HasWord i
 has (Lui rd z) e =
     let (r, f) = both _ _ e in
     let (n, m) = both _ _ f in
-    encodable (near-32 z n, whole 4096 z m) (below rd 32 r)
+    encodable (near-32 z n, whole 4096 z m) (ltb-true rd 32 r)
 has (Jal rd z) e =
     let (r, f) = both _ _ e in
     let (n, m) = both _ _ f in
-    encodable (near-21 z n, whole 2 z m) (below rd 32 r)
+    encodable (near-21 z n, whole 2 z m) (ltb-true rd 32 r)
 has (Jalr rd rs1 z) e =
     let (r, f) = both _ _ e in
     let (s, n) = both _ _ f in
-    encodable (near-12 z n) (below rd 32 r, below rs1 32 s)
+    encodable (near-12 z n) (ltb-true rd 32 r, ltb-true rs1 32 s)
 has (Branch op rs1 rs2 z) e =
     let (r, f) = both _ _ e in
     let (s, g) = both _ _ f in
     let (n, m) = both _ _ g in
-    encodable (near-13 z n, whole 2 z m) (below rs1 32 r, below rs2 32 s)
+    encodable (near-13 z n, whole 2 z m) (ltb-true rs1 32 r, ltb-true rs2 32 s)
 has (Load op rd rs1 z) e =
     let (r, f) = both _ _ e in
     let (s, n) = both _ _ f in
-    encodable (near-12 z n) (below rd 32 r, below rs1 32 s)
+    encodable (near-12 z n) (ltb-true rd 32 r, ltb-true rs1 32 s)
 has (Store op rs1 rs2 z) e =
     let (r, f) = both _ _ e in
     let (s, n) = both _ _ f in
-    encodable (near-12 z n) (below rs1 32 r, below rs2 32 s)
+    encodable (near-12 z n) (ltb-true rs1 32 r, ltb-true rs2 32 s)
 has (OpImm op rd rs1 z) e =
     let (r, f) = both _ _ e in
     let (s, n) = both _ _ f in
-    imm-has op rd rs1 z (below rd 32 r) (below rs1 32 s) n
+    imm-has op rd rs1 z (ltb-true rd 32 r) (ltb-true rs1 32 s) n
 has (Op op rd rs1 rs2) e =
     let (r, f) = both _ _ e in
     let (s, t) = both _ _ f in
-    encodable tt (below rd 32 r, below rs1 32 s, below rs2 32 t)
-has (Hsite rd) e = encodable tt (below rd 32 e)
-has (Hkey rd) e = encodable tt (below rd 32 e)
+    encodable tt (ltb-true rd 32 r, ltb-true rs1 32 s, ltb-true rs2 32 t)
+has (Hsite rd) e = encodable tt (ltb-true rd 32 e)
+has (Hkey rd) e = encodable tt (ltb-true rd 32 e)
 has Hleave e = encodable tt tt
 has Hstop e = encodable tt tt
 has Hrestart e = encodable tt tt
