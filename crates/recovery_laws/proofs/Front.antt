@@ -1,5 +1,5 @@
 -- The front of a rewritten file and the image that it carries, read back.
-use Rattle.std.proofs.Common.{◌≡◌, ℕ, ◌+◌, ◌*◌, ◌-◌, ◌%◌, ◌^◌, ◌==◌, ◌<◌, ◌≤◌, ◌&&◌, ◌||◌, Bool, true, false, not, nat_lt, nat_le, List, [], ◌∷◌, length, map, count_by, Some, None, refl, sym, ap, subst, arith, ◌∙◌}
+use Rattle.std.proofs.Common.{◌≡◌, ℕ, ◌+◌, ◌*◌, ◌-◌, ◌%◌, ◌^◌, ◌==◌, ◌<◌, ◌≤◌, ◌&&◌, ◌||◌, Bool, true, false, not, nat_lt, nat_le, List, [], ◌∷◌, length, map, count_by, Some, None, refl, sym, ap, subst, arith, ◌∙◌, le-leb, lt-ltb, eq-eqb}
 use Rattle.std.specs.Prelude.{All}
 use Rattle.std.specs.List.{list_any}
 use Rattle.std.proofs.lemmas.Bool.Decides.{nat_tests}
@@ -49,15 +49,6 @@ both : (a b : Bool) → a ≡ true → b ≡ true → (a && b) ≡ true
 both true true h k = refl
 both true false h k = k
 both false b h k = h
-
-le-is : (a b : ℕ) → a ≤ b → nat_le a b ≡ true
-le-is a b h = grind (arith, nat_tests)
-
-lt-is : (a b : ℕ) → a < b → nat_lt a b ≡ true
-lt-is a b h = grind (arith, nat_tests)
-
-eq-is : (a b : ℕ) → a ≡ b → (a == b) ≡ true
-eq-is a b h = grind (arith, nat_tests)
 
 limit-few : (v : Version) → image_limit v ≤ 0x3FF0_0000
 limit-few One = omega arith
@@ -236,25 +227,25 @@ module _ (bytes : List ℕ) (image : Image) (l : Layout) (file : List ℕ) (h : 
 
   entries-hold : holds_entries (file_header file) (length file) ≡ true
   entries-hold =
-      both _ _ (both _ _ (both _ _ (both _ _ (eq-is _ _ phoff) (eq-is _ _ phentsize)) (lt-is 8 _ (omega (arith, phnum, some))))
-      (le-is _ 72 (omega (arith, phnum, few))))
-      (le-is _ _ (omega (arith, phnum, record-inside)))
+      both _ _ (both _ _ (both _ _ (both _ _ (eq-eqb _ _ phoff) (eq-eqb _ _ phentsize)) (lt-ltb 8 _ (omega (arith, phnum, some))))
+      (le-leb _ 72 (omega (arith, phnum, few))))
+      (le-leb _ _ (omega (arith, phnum, record-inside)))
 
   record-holds : holds_record file (record_entry file) ≡ true
   record-holds =
       let type : is_record (record_entry file) ≡ true = ap is_record record-is in
       let forty : ((record_entry file).p_filesz == 40) ≡ true = ap (λ (p : Entry). p.p_filesz == 40) record-is in
       let ends : nat_le ((record_entry file).p_offset + 40) (length file) ≡ true =
-      ap (λ (p : Entry). nat_le (p.p_offset + 40) (length file)) record-is ∙ le-is _ _ record-inside in
+      ap (λ (p : Entry). nat_le (p.p_offset + 40) (length file)) record-is ∙ le-leb _ _ record-inside in
       let known : ((record_field file 1 == 1) || (record_field file 1 == 2)) ≡ true =
       ap (λ n. (n == 1) || (n == 2)) version-is ∙ version-known l.version in
-      let one : nat_le 1 (record_field file 4) ≡ true = le-is _ _ (omega (arith, regions-is, h.some_regions)) in
-      let most : nat_le (record_field file 4) 65_536 ≡ true = le-is _ _ (omega (arith, regions-is, h.few_regions)) in
-      both _ _ (both _ _ (both _ _ (both _ _ (both _ _ (both _ _ type forty) ends) (eq-is _ _ magic-is)) known) one) most
+      let one : nat_le 1 (record_field file 4) ≡ true = le-leb _ _ (omega (arith, regions-is, h.some_regions)) in
+      let most : nat_le (record_field file 4) 65_536 ≡ true = le-leb _ _ (omega (arith, regions-is, h.few_regions)) in
+      both _ _ (both _ _ (both _ _ (both _ _ (both _ _ (both _ _ type forty) ends) (eq-eqb _ _ magic-is)) known) one) most
 
   pub front-holds : holds_front file ≡ true
   front-holds =
-      both _ _ (both _ _ (both _ _ (le-is _ _ few-bytes) (le-is _ _ (omega (arith, record-inside)))) entries-hold) record-holds
+      both _ _ (both _ _ (both _ _ (le-leb _ _ few-bytes) (le-leb _ _ (omega (arith, record-inside)))) entries-hold) record-holds
 
   -- ---- the image
 
