@@ -1,5 +1,5 @@
 -- What a sink that compares with a file knows.
-use Rattle.std.proofs.Common.{◌≡◌, ◌≢◌, ℕ, zero, suc, ◌+◌, ◌-◌, ◌<◌, ◌≤◌, ◌==◌, Bool, true, false, nat_lt, List, [], ◌∷◌, ◌++◌, length, take, drop, slice_index, Option, Some, None, arith, sym, ap, subst, refl, ◌∙◌, append_assoc, length-append}
+use Rattle.std.proofs.Common.{◌≡◌, ◌≢◌, ℕ, zero, suc, ◌+◌, ◌-◌, ◌<◌, ◌==◌, Bool, true, false, nat_lt, List, [], ◌∷◌, ◌++◌, length, take, drop, slice_index, Option, Some, None, arith, sym, ap, subst, refl, ◌∙◌, append_assoc, length-append, ltb-true, ltb-false}
 use Rattle.std.specs.Prelude.{is_some}
 use Rattle.std.specs.Option.{option_map}
 use Rattle.std.proofs.Math.Seq.{take-add}
@@ -54,18 +54,6 @@ same-test n = grind (arith, nat_tests)
 other-test : (m n : ℕ) → m ≢ n → (m == n) ≡ false
 other-test m n h = grind (arith, nat_tests)
 
-lt-true : (m n : ℕ) → m < n → nat_lt m n ≡ true
-lt-true m n h = grind (arith, nat_tests)
-
-lt-false : (m n : ℕ) → n ≤ m → nat_lt m n ≡ false
-lt-false m n h = grind (arith, nat_tests)
-
-below-true : (m n : ℕ) → nat_lt m n ≡ true → m < n
-below-true m n h = grind (arith, nat_tests)
-
-below-false : (m n : ℕ) → nat_lt m n ≡ false → n ≤ m
-below-false m n h = grind (arith, nat_tests)
-
 -- a text that goes on with another byte
 differs-at : (file : List ℕ) (at x : ℕ) (rest : List ℕ) → at < length file → slice_index file at ≢ x
     → first_difference (take at file ++ x ∷ rest) file ≡ Some at
@@ -94,9 +82,9 @@ concludes : (file : List ℕ) (at : ℕ) (other : Option ℕ) (faults : ℕ) (re
     → Finds text file (shown_by other at below)
 concludes file at (Some x) faults rest text true h e none test =
     subst (λ (t : List ℕ). first_difference t file ≡ Some at) (sym (append_assoc (take at file) (x ∷ []) rest) ∙ e)
-    (differs-at file at x rest (below-true at (length file) test) (h.differs x refl (below-true at (length file) test)))
+    (differs-at file at x rest (ltb-true at (length file) test) (h.differs x refl (ltb-true at (length file) test)))
 concludes file at (Some x) faults rest text false h e none test =
-    let all : take at file ≡ file = take_all at file (below-false at (length file) test) in
+    let all : take at file ≡ file = take_all at file (ltb-false at (length file) test) in
     let is : file ++ (x ∷ rest) ≡ text = ap (λ w. w ++ (x ∷ rest)) (sym all) ∙ sym (append_assoc (take at file) (x ∷ []) rest) ∙ e in
     let long : length text ≡ length file + suc (length rest) = sym (ap length is) ∙ length-append file (x ∷ rest) in (
       subst (λ (t : List ℕ). first_difference t file ≡ None) is (goes-on file (x ∷ rest)),
@@ -104,14 +92,14 @@ concludes file at (Some x) faults rest text false h e none test =
     )
 concludes file at None faults rest text true h e none test =
     let is : take at file ≡ text = sym (append-nil (take at file)) ∙ sym (append-nil (take at file ++ [])) ∙ ap (λ w. (take at file ++ []) ++ w) (sym (none refl)) ∙ e in
-    let short : at < length file = below-true at (length file) test in
+    let short : at < length file = ltb-true at (length file) test in
     let long : length text ≡ length (take at file) = sym (ap length is) in (
       subst (λ (t : List ℕ). first_difference t file ≡ None) is (ends file at),
       other-test (length text) (length file) (λ same. omega (arith, long, same, short, length-take {A = ℕ} at file)),
     )
 concludes file at None faults rest text false h e none test =
     let is : take at file ≡ text = sym (append-nil (take at file)) ∙ sym (append-nil (take at file ++ [])) ∙ ap (λ w. (take at file ++ []) ++ w) (sym (none refl)) ∙ e in
-    sym is ∙ take_all at file (below-false at (length file) test)
+    sym is ∙ take_all at file (ltb-false at (length file) test)
 
 -- where a text was put to it, whole or not
 finds-from : (file p rest text : List ℕ) (v : MatchState) → IsMatch v.file v.at v.other v.faults → v.file ≡ file
