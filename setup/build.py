@@ -3,7 +3,7 @@
 
 Each crate is built by the kit's `rt lib`, several side by side, and what is built is kept: where
 this is stopped it goes on from there. It tells on standard error which crate is being built and how
-long it took so far. Usage: setup/build.py [NAME [SECONDS]] builds the program crate NAME (spechint).
+long it took so far. Usage: setup/build.py [NAME] builds the program crate NAME (spechint).
 """
 
 import os
@@ -13,6 +13,9 @@ import time
 
 TOP = os.path.dirname(os.path.dirname(os.path.realpath(__file__)))
 LOG = os.path.join(TOP, "build.log")
+SECONDS = os.path.join(TOP, "setup", "seconds.txt")
+# What a crate is taken to need that was not measured yet.
+USUAL_SECONDS = 40
 
 
 def uses_of_crates():
@@ -26,16 +29,11 @@ def uses_of_crates():
     return {name: [it for it in used if it in uses] for name, used in uses.items()}
 
 
-def lines_of(name):
-    """How many lines of code, definitions and proofs a crate has."""
-    count = 0
-    for part in ("src", "specs", "proofs"):
-        for folder, _, files in os.walk(os.path.join(TOP, "crates", name, part)):
-            for file in files:
-                if file.endswith((".rt", ".antt")):
-                    with open(os.path.join(folder, file), "rb") as it:
-                        count += it.read().count(b"\n")
-    return count
+def seconds_of_crates():
+    """How many seconds the proof of each crate took when it was measured, as setup/seconds.txt gives them."""
+    with open(SECONDS, encoding="utf-8") as lines:
+        rows = [line.split("#")[0].split() for line in lines]
+    return {row[0]: int(row[1]) for row in rows if row}
 
 
 def below(name, uses):
@@ -49,14 +47,14 @@ def below(name, uses):
     return found
 
 
-def weights(names, uses):
-    """For each crate the lines of the longest chain of crates from it upwards: what waits for it."""
+def weights(names, uses, seconds):
+    """For each crate the seconds of the longest chain of crates from it upwards: what waits for it."""
     above = {name: [it for it in names if name in uses[it]] for name in names}
     known = {}
 
     def weight(name):
         if name not in known:
-            known[name] = lines_of(name) + max((weight(it) for it in above[name]), default=0)
+            known[name] = seconds[name] + max((weight(it) for it in above[name]), default=0)
         return known[name]
 
     return {name: weight(name) for name in names}
@@ -68,7 +66,9 @@ class Build:
     def __init__(self, goal):
         self.uses = uses_of_crates()
         self.names = below(goal, self.uses) - {goal}
-        self.weights = weights(self.names, self.uses)
+        measured = seconds_of_crates()
+        self.seconds = {it: measured.get(it, USUAL_SECONDS) for it in self.names | {goal}}
+        self.weights = weights(self.names, self.uses, self.seconds)
         self.done, self.running = set(), {}
         self.start = time.monotonic()
         self.cores = os.cpu_count() or 1
@@ -88,7 +88,11 @@ class Build:
         folder = os.path.join(TOP, "crates", name)
         output = open(os.path.join(log, name), "wb")
         self.running[name] = subprocess.Popen(words, cwd=folder, stdin=subprocess.DEVNULL, stdout=output, stderr=output)
-        self.tell(f"building {len(self.done) + len(self.running)} of {len(self.names) + 1}: {name}")
+        self.tell(f"building {len(self.done) + len(self.running)} of {len(self.names) + 1}: {name}, {self.share_done()}% done")
+
+    def share_done(self):
+        """How many percent of the work are done, by the measured seconds."""
+        return 100 * sum(self.seconds[it] for it in self.done) // sum(self.seconds.values())
 
     def begin_ready(self, log):
         ready = self.ready()
