@@ -94,11 +94,16 @@ class Build:
         """How many percent of the work are done, by the measured seconds."""
         return 100 * sum(self.seconds[it] for it in self.done) // sum(self.seconds.values())
 
+    def is_pressing(self, name):
+        """Whether what waits for a crate takes longer than an even share of all that is left."""
+        left = sum(self.seconds.values()) - sum(self.seconds[it] for it in self.done)
+        return self.cores >= 4 and self.weights[name] * self.cores > left
+
     def begin_ready(self, log):
         ready = self.ready()
         room = self.cores - len(self.running)
         for name in ready[: max(room, 0)]:
-            self.begin(name, max(1, room // len(ready)), log)
+            self.begin(name, self.cores if self.is_pressing(name) else max(1, room // len(ready)), log)
 
     def end_one(self):
         """Waits for a crate to end, and gives its name and status."""
