@@ -4,10 +4,5 @@
 # `O1000000T1000000D4` a shadow also makes so many words while the program waits. Beside it stand the hints, the restarts, and, from the trace's lines,
 # the fetches of caches of three sizes and the least of any cache of 256 blocks. Use: bench/benefit.sh
 here=$(cd "$(dirname "$0")/.." && pwd)
-told=$("$here/samples/build.sh") || exit 1
-if [ -n "$told" ]; then
-    echo "benefit.sh: $told"
-    exit 0
-fi
-"$here/spechint" plain "$here/crates/spechint/data/w1" >/dev/null || exit 1
-exec python3 "$here/bench/benefit.py" "$here/spechint" "$here/samples"
+. "$here/samples/ready.sh"
+python3 "$here/bench/benefit.py" "$here/spechint" "$here/samples"

@@ -6,15 +6,7 @@ if ! command -v valgrind > /dev/null; then
     echo "uses.sh: skipped: no valgrind"
     exit 0
 fi
-told=$("$here/samples/build.sh") || exit 1
-if [ -n "$told" ]; then
-    echo "uses.sh: $told"
-    exit 0
-fi
-"$here/spechint" plain "$here/crates/spechint/data/m1" > /dev/null
-[ $? = 7 ] || exit 1
-work=$(mktemp -d) || exit 1
-trap 'rm -rf "$work"' EXIT
+. "$here/samples/ready.sh"
 seq 1 1500 > "$work/numbers"
 seq 1 6000 | head -c 24000 > "$work/cube"
 

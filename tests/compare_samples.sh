@@ -2,18 +2,12 @@
 # Runs each sample under `spechint plain` and as a program of this machine, and compares what they
 # print and how they end. Skips where the cross compiler or a compiler of this machine is missing.
 here=$(cd "$(dirname "$0")/.." && pwd)
-cd "$here/samples" || exit 1
-told=$(./build.sh) || exit 1
-if [ -n "$told" ]; then
-    echo "compare_samples: $told"
-    exit 0
-fi
 if ! command -v cc > /dev/null; then
     echo "compare_samples: skipped: no cc"
     exit 0
 fi
-work=$(mktemp -d) || exit 1
-trap 'rm -rf "$work"' EXIT
+. "$here/samples/ready.sh"
+cd "$here/samples" || exit 1
 
 # Files of no bytes, of a block, of more than a piece, one that isn't there, and a block of 20 * 30 * 40 bytes.
 : > "$work/empty"
