@@ -100,6 +100,12 @@ LoadTraps =
     → (may_access l (load_size op) a ≡ false → (t : Trap) × (load_effect (data_rights l) m op rs pc rd a ≡ Trapped t))
     × (may_access l (load_size op) a ≡ true → load_effect (data_rights l) m op rs pc rd a ≡ steps_on (with_reg rs rd (extended op (loaded m a (load_width op)))) pc)
 
+-- Each word of a load's block, and of the helpers that it calls, goes on to the next one with fewer
+-- words left, at most 227 from word 1 on, to the block of the next instruction, or parks, and this
+-- only where the program's load would trap. At the next block rd is what the word of the load found
+-- at the address's place, and each other register is as it was at word 1. That number is known where
+-- the bytes are that the shadow has there at that word. No word changes the tables or the memory.
+
 -- at word 1 of its block there are 227 words left at most
 abbrev pub LoadStarts : Type 0
 LoadStarts =

@@ -255,6 +255,15 @@ StoreTraps =
     → (may_access l (store_size op) a ≡ false → (t : Trap) × (store_effect (data_rights l) a (store_width op) v ≡ Trapped t))
     × (may_access l (store_size op) a ≡ true → store_effect (data_rights l) a (store_width op) v ≡ Stored a (store_width op) v)
 
+-- Each word of a store's block, and of the helpers that it calls, goes on to the next one with fewer
+-- words left, at most 227 from word 1 on, to the block of the next instruction, or parks. It parks
+-- only where the program's store would trap, or where the region had no copy at word 1 and all slots
+-- were in use. At the next block each register is as it was at word 1, the region has a copy, in the
+-- next slot if it had none, and the bytes that are known of what the shadow has in place of the
+-- program's memory are those before the store, but for those that it stored. Table and list are
+-- consistent behind each word, and each copy stays. Other moves may come between two words, where
+-- they change bytes that aren't known or whose region has a copy, and nothing of the copies.
+
 -- at word 1 of its block there are 227 words left at most
 abbrev pub StoreStarts : Type 0
 StoreStarts =

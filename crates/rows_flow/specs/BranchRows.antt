@@ -32,6 +32,10 @@ BranchLeads =
     → Follows l program p (Branch op rs1 rs2 imm) q (block_at l p) (BranchRow op rs1 rs2 q) t m n
     (exec_some (block_at l p) (code l (block l p (Branch op rs1 rs2 imm)) place) (record { place = place; regs = rs; priv = s; tabs = t }) m)
 
+-- Each word of the block of a branch goes on to the next one, to the block of the next instruction
+-- where the branch isn't taken, and to the target's where it is, or parks, and this only where it is
+-- taken to no place in the text. The registers, the tables and the memory are left.
+
 -- at word 1 there are 2 words left at most
 abbrev pub BranchStarts : Type 0
 BranchStarts = (op : BranchOp) (rs1 rs2 : ℕ) (q : Regs) (s : Priv) (t : Tabs) → BranchRow op rs1 rs2 q (InBlock 1) q s t 2

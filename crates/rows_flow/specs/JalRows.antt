@@ -62,6 +62,10 @@ PadLeads =
     → Follows l program p (Jal rd imm) q (block_at l (plus_int p imm)) (PadRow l p rd (plus_int p imm) q) t m n
     (exec_some (block_at l (plus_int p imm)) (code l words place) (record { place = place; regs = rs; priv = s; tabs = t }) m)
 
+-- Each word of the block of jal goes on to the next one, and the last to word 0 of the target's
+-- block, and this to its word 1, with the link in its register; at most 6 words from word 1 on. It
+-- parks only where the target isn't in the text. No word changes the tables or the memory.
+
 -- at word 1 there are 6 words left at most
 abbrev pub JalStarts : Type 0
 JalStarts = (l : Layout) (p rd target : ℕ) (q : Regs) (s : Priv) (t : Tabs) → JalRow l p rd target q (InBlock 1) q s t 6

@@ -67,6 +67,11 @@ JumpFollows =
     → Follows l program p (Jalr rd rs1 imm) q base (JumpRow l (plus_int (get rs1 q) imm) (put rd (p + 4) q)) t m n
     (exec_some base (code l words place) (record { place = place; regs = rs; priv = s; tabs = t }) m)
 
+-- Each word of the block of jalr, and of JUMP, goes on to the next one, at most 25 from word 1 on, to
+-- the block of the address that the program goes to, with the link in its register, or parks, and
+-- this only where that address isn't in the text, or is no multiple of 4. No word changes the tables
+-- or the memory.
+
 -- at word 1 there are 25 words left at most
 abbrev pub JalrStarts : Type 0
 JalrStarts = (l : Layout) (p rd rs1 : ℕ) (imm : ℤ) (q : Regs) (s : Priv) (t : Tabs) → JalrRow l p rd rs1 imm q (InBlock 1) q s t 25

@@ -58,6 +58,10 @@ PlainLeads =
     → Follows l program p i q (block_at l p) (PlainRow i q) t m n
     (exec_some (block_at l p) (code l (block l p i) place) (record { place = place; regs = rs; priv = s; tabs = t }) m)
 
+-- Each word of the block of an instruction that only computes, two of them, goes on to the next one,
+-- or to the block of the next instruction with the registers that the instruction gives. No word
+-- changes the tables or the memory.
+
 -- at word 1 there are 2 words left at most
 abbrev pub PlainStarts : Type 0
 PlainStarts = (i : Instr) (q : Regs) (s : Priv) (t : Tabs) → PlainRow i q (InBlock 1) q s t 2
@@ -82,6 +86,8 @@ AuipcLeads =
     → (n : ℕ) (place : Place) (rs : Regs) (s : Priv) (t : Tabs) (m : Memory) → TableOk l t → AuipcRow rd (plus_int p imm) q place rs s t n
     → Follows l program p (Auipc rd imm) q (block_at l p) (AuipcRow rd (plus_int p imm) q) t m n
     (exec_some (block_at l p) (code l (block l p (Auipc rd imm)) place) (record { place = place; regs = rs; priv = s; tabs = t }) m)
+
+-- The same of auipc, whose block has four words.
 
 -- at word 1 there are 4 words left at most
 abbrev pub AuipcStarts : Type 0
@@ -113,6 +119,9 @@ ParkLeads =
     → (n : ℕ) (place : Place) (rs : Regs) (s : Priv) (t : Tabs) (m : Memory) → TableOk l t → ParkRow q place rs s t n
     → Follows l program p i q (block_at l p) (ParkRow q) t m n
     (exec_some (block_at l p) (code l (block l p i) place) (record { place = place; regs = rs; priv = s; tabs = t }) m)
+
+-- The block of an instruction at which every program traps parks at its first word, and so does the
+-- guard block behind the text.
 
 -- at word 1 there is 1 word left
 abbrev pub ParkStarts : Type 0

@@ -175,6 +175,12 @@ pub record CallArrives (p : ℕ) (q : Regs) (answer : ℕ) (t : Tabs) (m : Memor
 
 -- ---- statements
 
+-- Each word of a call's block, and of APPEND, goes on to the next one with fewer words left, 31 at
+-- most from word 1 on, or parks, and this only where the hint log had 64 pairs as its head was
+-- loaded. At the HCALL all registers are the program's. A call without key leaves the log; a keyed
+-- one has appended its key and its asked count, and nothing else. Behind the HCALL the shadow arrives
+-- at the next block with the answer in x10. The own hart may take pairs between two words.
+
 -- at word 1 there are 31 words left at most
 abbrev pub CallStarts : Type 0
 CallStarts =

@@ -30,6 +30,10 @@ pub record IsFilled (l : Layout) (program : Memory) (t : Tabs) (old : Memory) (a
   pub copied : (x : ℕ) → a ≤ x → x < a + length bytes → 0 < tables.entry (x / 256)
   pub view : (x : ℕ) → x / 256 < all_regions l → seen tables new program x ≡ written (seen t old program) a bytes x
 
+-- A read that the shadow assumes keeps the region table and the region list consistent, and each copy
+-- where it is. Where the read is filled, all its regions have copies, and what the shadow has in place
+-- of the program's memory is what it had, but for the bytes that were read; else that stays.
+
 -- a read that is planned sets its bytes where it is filled
 abbrev pub FillsKeepTables : Type 0
 FillsKeepTables =

@@ -47,6 +47,10 @@ GuardStoresNot = NoneStores guard_block
 abbrev pub HelpersStoreNot : Type 0
 HelpersStoreNot = (l : Layout) (h : Helper) → has_stores h ≡ false → NoneStores (helper_words l h)
 
+-- In each run a word of the shadow that is no store through a register leaves the link. No word of a
+-- block is such a store but in the blocks of stores, and no word of a helper but in STAIL, APPEND and
+-- RESTART. An own move in the program and the end of a fetch leave all that is shared.
+
 -- in each run every other word leaves the link
 abbrev pub WordsLeaveLink : Type 0
 WordsLeaveLink =

@@ -45,6 +45,11 @@ pub record KeepsQueue (m m' : Memory) : Type 0 where
   pub appends : Appends m m'
   pub one : log_tail m' ≤ log_tail m + 1
 
+-- The hint log is a queue of at most 64 pairs between any two words: a word of a call only appends
+-- to it, one pair at most, where its tail is below 2^64 - 1; a word that leaves the link and a call
+-- that is assumed leave it; and the own hart takes pairs from it where it raises the head up to the
+-- tail. Neither touches the box.
+
 abbrev pub StepsKeepQueue : Type 0
 StepsKeepQueue = (count : ℕ) (place : Place) (m m' : Memory) → IsQueue m → log_tail m < 2 ^ 64 - 1 → LogStep count place m m' → KeepsQueue m m'
 

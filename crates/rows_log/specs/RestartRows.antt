@@ -140,6 +140,12 @@ pub record RestartFaults (l : Layout) (site : ℕ) (t : Tabs) (m : Memory) (caus
 
 -- ---- statements
 
+-- Each word of RESTART goes on to the next one with fewer words left, at most 63 from the first on
+-- and 5 for each region in use, up to the block behind the boxed site, or parks there, where the
+-- site is the text's last word. The table and the list are consistent behind each word; before the
+-- HCALL no region has a copy, and the registers are those of the box, to which the HCALL adds its
+-- answer. What the link holds is left.
+
 -- at the first word there are 63 + 5 u words left at most, u being the regions in use
 abbrev pub RestartStarts : Type 0
 RestartStarts = (l : Layout) (site : ℕ) (q rs : Regs) (s : Priv) (t : Tabs) → RestartRow l site q (InHelper Restarting 0) rs s t (63 + 5 * t.count)

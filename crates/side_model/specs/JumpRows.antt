@@ -86,6 +86,10 @@ module _ (l : Layout) (at : ℕ) (q : Regs) where
     pub place : may ≡ true → base ≡ block_at l goal
     pub pad : may ≡ true → slice_get words 0 ≡ Some (ld 31 X31 0)
 
+-- Each word of the helper JUMP goes on to the next one with fewer words left, to the block of the
+-- address that it was given, with the registers that it was given, or parks, and this only where the
+-- program would trap: where the address isn't in the text or is no multiple of 4.
+
 -- each word of JUMP, by itself, leads to its next row, to the target's block, or to a park
 abbrev pub JumpLeads : Type 0
 JumpLeads =
