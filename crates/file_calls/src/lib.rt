@@ -2,10 +2,10 @@
 //! their answers make of the file descriptors and of the break. Nothing here takes memory.
 #![tactic(auto)]
 
-mod answers;
 mod call;
 mod change;
 mod descriptor;
+pub mod errno;
 mod files;
 mod memory;
 mod plan;

@@ -5,7 +5,7 @@ ghost use Rattle.program_model.specs.Calls as calls;
 ghost use Rattle.rv_model.specs.Data.{byte_in, data_in, memory_in};
 ghost use Rattle.file_calls.specs.Data.{named};
 
-use crate::answers::{BAD_ADDRESS, NAME_TOO_LONG, NO_SUCH_FILE};
+use crate::errno::{EFAULT, ENAMETOOLONG, ENOENT};
 use arrayvec::ArrayVec;
 use rv_model::Bytes;
 use spec_base::Name;
@@ -28,12 +28,12 @@ pub fn name_at<B: Bytes>(mem: &B, address: u64) -> Result<Name, i64>
     let mut bytes = ArrayVec::<u8, 256>::new();
     for distance in 0..256 {
         match byte_past(mem, address, distance) {
-            None => return Err(BAD_ADDRESS),
+            None => return Err(EFAULT),
             Some(0) => return name_of(bytes.as_slice()),
             Some(byte) => bytes.push(byte),
         }
     }
-    Err(NAME_TOO_LONG)
+    Err(ENAMETOOLONG)
 }
 
 // The name of these bytes; an empty one names no file.
@@ -41,5 +41,5 @@ fn name_of(bytes: &[u8]) -> Result<Name, i64>
     requires { length bytes.now ≤ 255 }
     ensures { named result ≡ calls.not_empty (calls.Whole bytes.now) }
 {
-    Name::new(bytes).ok_or(NO_SUCH_FILE)
+    Name::new(bytes).ok_or(ENOENT)
 }

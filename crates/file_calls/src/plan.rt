@@ -8,12 +8,10 @@ ghost use Rattle.rv_model.specs.Arithmetic.{signed};
 ghost use Rattle.rv_model.specs.Data.{data_in, memory_in};
 ghost use Rattle.file_calls.specs.Plans.{plan_shown, opening_shown, reading_shown, offset_at, left, changed, made, KeepsBreak, PlanKeepsBreak, ReadBounds, PlanBounds, IsOnData};
 
-use crate::answers::{
-    BAD_ADDRESS, BAD_DESCRIPTOR, INVALID_ARGUMENT, NO_FREE_DESCRIPTOR, NO_SUCH_CALL, NOT_SEEKABLE,
-};
 use crate::call::Call;
 use crate::change::Change;
 use crate::descriptor::{Descriptor, OpenFile};
+use crate::errno::{EBADF, EFAULT, EINVAL, EMFILE, ENOSYS, ESPIPE};
 use crate::files::Files;
 use crate::memory::name_at;
 use rv_model::Bytes;
@@ -62,11 +60,11 @@ impl Files {
         ensures { opening_shown self.now result ≡ calls.open_plan (data_in (B.byte_at mem.now)) (memory_in (B.byte_at mem.now)) self.now name flags }
     {
         if flags % 4 != 0 {
-            return Err(INVALID_ARGUMENT);
+            return Err(EINVAL);
         }
         let name = name_at(mem, name)?;
         if self.lowest_free().is_none() {
-            return Err(NO_FREE_DESCRIPTOR);
+            return Err(EMFILE);
         }
         Ok(name)
     }
@@ -90,7 +88,7 @@ impl Files {
         ensures kept { KeepsBreak self.now result.0 }
     {
         match self.slot(descriptor) {
-            Descriptor::Free => (Change::Nothing, BAD_DESCRIPTOR),
+            Descriptor::Free => (Change::Nothing, EBADF),
             _ => (Change::Slot(descriptor, Descriptor::Free), 0),
         }
     }
@@ -101,9 +99,9 @@ impl Files {
         ensures kept { KeepsBreak self.now result.0 }
     {
         match self.slot(descriptor) {
-            Descriptor::Free => (Change::Nothing, BAD_DESCRIPTOR),
+            Descriptor::Free => (Change::Nothing, EBADF),
             Descriptor::File(file) => self.moved_file(descriptor, &file, distance, whence),
-            _ => (Change::Nothing, NOT_SEEKABLE),
+            _ => (Change::Nothing, ESPIPE),
         }
     }
 
@@ -119,7 +117,7 @@ impl Files {
         ensures kept { KeepsBreak self.now result.0 }
     {
         let Some(base) = seek_base(file, whence) else {
-            return (Change::Nothing, INVALID_ARGUMENT);
+            return (Change::Nothing, EINVAL);
         };
         match offset_from(base, distance) {
             Some(offset) => {
@@ -129,7 +127,7 @@ impl Files {
                     offset as i64,
                 )
             }
-            None => (Change::Nothing, INVALID_ARGUMENT),
+            None => (Change::Nothing, EINVAL),
         }
     }
 
@@ -146,12 +144,12 @@ impl Files {
         ensures data { IfOk result (λ spot. IsTrue (all_from (data_in (B.byte_at mem.now)) address spot.count)) }
     {
         let Descriptor::File(file) = self.slot(descriptor) else {
-            return Err(BAD_DESCRIPTOR);
+            return Err(EBADF);
         };
         let left = file.size().saturating_sub(file.offset());
         let count = asked.min(MOST_BYTES.min(left));
         if !mem.is_all_data(address, count) {
-            return Err(BAD_ADDRESS);
+            return Err(EFAULT);
         }
         Ok(ReadSpot {
             name: file.name(),
@@ -170,7 +168,7 @@ impl Files {
         match self.slot(descriptor) {
             Descriptor::Out => self.putting(true, address, asked.min(MOST_BYTES), mem),
             Descriptor::Err => self.putting(false, address, asked.min(MOST_BYTES), mem),
-            _ => refused(BAD_DESCRIPTOR),
+            _ => refused(EBADF),
         }
     }
 
@@ -183,7 +181,7 @@ impl Files {
         ensures kept { PlanKeepsBreak self.now result }
     {
         if !mem.is_all_data(address, count) {
-            refused(BAD_ADDRESS)
+            refused(EFAULT)
         } else if count == 0 {
             refused(0)
         } else {
@@ -211,7 +209,7 @@ impl Files {
             Call::Write => self.writing(a[0], a[1], a[2], mem),
             Call::Exit => PlannedCall::Exit((a[0] % 256) as u8),
             Call::Break => settled(self.moved_break(a[0])),
-            Call::Unknown => refused(NO_SUCH_CALL),
+            Call::Unknown => refused(ENOSYS),
         }
     }
 
@@ -260,7 +258,7 @@ impl Files {
                     number as i64,
                 )
             }
-            None => (Change::Nothing, NO_FREE_DESCRIPTOR),
+            None => (Change::Nothing, EMFILE),
         }
     }
 

@@ -6,13 +6,11 @@ ghost use Rattle.plain_runner.specs.Outcomes.{OpenComesTo};
 
 use crate::answering::settle;
 use crate::ending::Ending;
+use file_calls::errno::ENOENT;
 use file_calls::{Change, Files};
 use hart_step::Hart;
 use spec_base::Name;
 use world_io::{Look, Store};
-
-/// ENOENT, the negated number of Linux's errno.h: no such file.
-const NO_SUCH_FILE: i64 = -2;
 
 /// Opens a file: one look.
 pub fn open<S: Store>(
@@ -30,7 +28,7 @@ pub fn open<S: Store>(
             None
         }
         Look::Absent => {
-            settle(hart, files, &Change::Nothing, &NO_SUCH_FILE);
+            settle(hart, files, &Change::Nothing, &ENOENT);
             None
         }
         Look::Failed => Some(Ending::StoreFault),

@@ -20,13 +20,11 @@ ghost use Rattle.runner.specs.ShadowGoes.{Assumes};
 ghost use Rattle.runner.specs.Shows.{Shows};
 
 use crate::runner::Runner;
+use file_calls::errno::ENOENT;
 use file_calls::{Change, PlannedCall};
 use runner_parts::{fill_held, hint_blocks, plan_of_shadow, word_of};
 use spec_base::{Name, Note, Park, ReadSpot, Reg};
 use world_io::{Look, Store};
-
-/// ENOENT, the negated number of Linux's errno.h: no such file.
-pub const NO_SUCH_FILE: i64 = -2;
 
 impl Runner {
     // The call is assumed with this answer, and the descriptors stay.
@@ -81,7 +79,7 @@ impl Runner {
     {
         match store.look(name) {
             Look::Found(size) => self.assume_found(name, size),
-            Look::Absent => self.assume_answer(&NO_SUCH_FILE),
+            Look::Absent => self.assume_answer(&ENOENT),
             Look::Failed => self.park(Park::Store),
         }
     }

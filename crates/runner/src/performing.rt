@@ -18,12 +18,10 @@ ghost use Rattle.runner.specs.Shows.{Shows};
 
 use crate::runner::Runner;
 use file_calls::Change;
+use file_calls::errno::ENOENT;
 use runner_parts::{End, call_note};
 use spec_base::{Name, Note};
 use world_io::{Look, Store};
-
-/// ENOENT, the negated number of Linux's errno.h: no such file.
-const NO_SUCH_FILE: i64 = -2;
 
 impl Runner {
     // The call is told with this answer.
@@ -71,7 +69,7 @@ impl Runner {
                 Look::Found(size)
             }
             Look::Absent => {
-                self.own_set(&Change::Nothing, &NO_SUCH_FILE);
+                self.own_set(&Change::Nothing, &ENOENT);
                 Look::Absent
             }
             Look::Failed => {
