@@ -1,14 +1,14 @@
--- Lemmas on what a pool keeps: its chunks of pages, and which frames are in use.
-use Rattle.std.proofs.Common.{◌≡◌, ◌≢◌, ℕ, zero, suc, ◌+◌, ◌-◌, ◌/◌, ◌%◌, ◌<◌, ◌≤◌, Bool, true, false, if◌then◌else◌, cond, List, [], ◌∷◌, length, get_or, set, take, replicate, Option, Some, None, is_some, refl, ap, sym, ◌∙◌, arith, inl, inr}
+-- Lemmas on what a pool keeps: its pages, and which frames are in use.
+use Rattle.std.proofs.Common.{◌≡◌, ◌≢◌, ℕ, zero, suc, ◌+◌, ◌-◌, ◌<◌, ◌≤◌, Bool, true, false, if◌then◌else◌, cond, List, [], ◌∷◌, length, get_or, set, take, replicate, Option, Some, None, is_some, refl, ap, sym, ◌∙◌, arith, inl, inr}
 use Rattle.std.specs.List.{count_by}
 use Rattle.std.proofs.lemmas.List.{length-replicate, length-append, take_all, get_or-replicate, get_or_past, get_or_append_left, get_or-set_same, get_or-set_other}
 use Rattle.std.proofs.lemmas.List.Sums.{sum_by-cons, sum_by-set, count_by_more_yes}
 use Rattle.std.proofs.Math.Seq.{get_or-append_right}
-use Rattle.std.proofs.lemmas.Bool.{cases_lt, cases_eq}
-use Rattle.page_pool.specs.Pages.{blank_page, page_in, reached, with_page, page_of, with_page_of}
+use Rattle.std.proofs.lemmas.Bool.{cases_lt}
+use Rattle.page_pool.specs.Pages.{blank_page, page_in, reached, with_page}
 use Rattle.page_pool.specs.Storage.{frames_from, used_count}
 
--- ── A page of a chunk ──
+-- ── A page ──
 
 get_or-blanks : (n i : ℕ) → get_or (replicate n blank_page) i blank_page ≡ blank_page
 get_or-blanks n i =
@@ -18,78 +18,55 @@ get_or-blanks n i =
     ]
 
 -- blank pages behind the last change none
-reached-same : (chunk : List (List ℕ)) (at i : ℕ) → page_in (reached chunk at) i ≡ page_in chunk i
-reached-same chunk at i =
-    let blanks = replicate (at + 1 - length chunk) blank_page in
-    elim (cases_lt i (length chunk)) [
-      | inl within ↦ get_or_append_left chunk blanks blank_page i within
-      | inr past ↦ get_or-append_right chunk blanks i blank_page (omega (arith, past)) ∙ get_or-blanks (at + 1 - length chunk) (i - length chunk) ∙ sym (get_or_past chunk i blank_page (omega (arith, past)))
+reached-same : (pages : List (List ℕ)) (at i : ℕ) → page_in (reached pages at) i ≡ page_in pages i
+reached-same pages at i =
+    let blanks = replicate (at + 1 - length pages) blank_page in
+    elim (cases_lt i (length pages)) [
+      | inl within ↦ get_or_append_left pages blanks blank_page i within
+      | inr past ↦ get_or-append_right pages blanks i blank_page (omega (arith, past)) ∙ get_or-blanks (at + 1 - length pages) (i - length pages) ∙ sym (get_or_past pages i blank_page (omega (arith, past)))
     ]
 
-reached-length : (chunk : List (List ℕ)) (at : ℕ) → at < length (reached chunk at)
-reached-length chunk at =
-    let blanks = replicate (at + 1 - length chunk) blank_page in
-    omega (arith, length-append chunk blanks, length-replicate (at + 1 - length chunk) blank_page)
+reached-length : (pages : List (List ℕ)) (at : ℕ) → at < length (reached pages at)
+reached-length pages at =
+    let blanks = replicate (at + 1 - length pages) blank_page in
+    omega (arith, length-append pages blanks, length-replicate (at + 1 - length pages) blank_page)
 
-with_page-same : (chunk : List (List ℕ)) (at : ℕ) (page : List ℕ) → page_in (with_page chunk at page) at ≡ page
-with_page-same chunk at page = get_or-set_same (reached chunk at) at page blank_page (reached-length chunk at)
+pub with_page-same : (pages : List (List ℕ)) (at : ℕ) (page : List ℕ) → page_in (with_page pages at page) at ≡ page
+with_page-same pages at page = get_or-set_same (reached pages at) at page blank_page (reached-length pages at)
 
-with_page-other : (chunk : List (List ℕ)) (at : ℕ) (page : List ℕ) (i : ℕ) → i ≢ at → page_in (with_page chunk at page) i ≡ page_in chunk i
-with_page-other chunk at page i apart = get_or-set_other (reached chunk at) at i page blank_page apart ∙ reached-same chunk at i
-
--- ── The page of a number ──
-
-pub page_of-same : (chunks : List (List (List ℕ))) (k : ℕ) (page : List ℕ) → k / 64 < length chunks → page_of (with_page_of chunks k page) k ≡ page
-page_of-same chunks k page inside =
-    let none : List (List ℕ) = [] in
-    let chunk = with_page (get_or chunks (k / 64) none) (k % 64) page in
-    ap (λ c. page_in c (k % 64)) (get_or-set_same chunks (k / 64) chunk none inside) ∙ with_page-same (get_or chunks (k / 64) none) (k % 64) page
-
-pub page_of-other : (chunks : List (List (List ℕ))) (k : ℕ) (page : List ℕ) (i : ℕ) → k / 64 < length chunks → i ≢ k → page_of (with_page_of chunks k page) i ≡ page_of chunks i
-page_of-other chunks k page i inside apart =
-    let none : List (List ℕ) = [] in
-    let old = get_or chunks (k / 64) none in
-    let chunk = with_page old (k % 64) page in
-    elim (cases_eq (i / 64) (k / 64)) [
-      | inl same ↦
-          let elsewhere : i % 64 ≢ k % 64 = λ e. apart (omega (arith, same, e)) in
-          ap (λ n. page_in (get_or (set chunks (k / 64) chunk) n none) (i % 64)) same
-          ∙ ap (λ c. page_in c (i % 64)) (get_or-set_same chunks (k / 64) chunk none inside)
-          ∙ with_page-other old (k % 64) page (i % 64) elsewhere
-          ∙ ap (λ n. page_in (get_or chunks n none) (i % 64)) (sym same)
-      | inr other ↦ ap (λ c. page_in c (i % 64)) (get_or-set_other chunks (k / 64) (i / 64) chunk none other)
-    ]
+pub with_page-other : (pages : List (List ℕ)) (at : ℕ) (page : List ℕ) (i : ℕ) → i ≢ at → page_in (with_page pages at page) i ≡ page_in pages i
+with_page-other pages at page i apart = get_or-set_other (reached pages at) at i page blank_page apart ∙ reached-same pages at i
 
 -- ── Frames ──
 
 -- the frame at a place of the list
-pub frames_from-at : (chunks : List (List (List ℕ))) (k : ℕ) (used : List Bool) (i : ℕ) → get_or (frames_from chunks k used) i None ≡ (if get_or used i false then Some (page_of chunks (k + i)) else None)
-frames_from-at chunks k [] i =
+pub frames_from-at : (pages : List (List ℕ)) (k : ℕ) (used : List Bool) (i : ℕ) → get_or (frames_from pages k used) i None ≡ (if get_or used i false then Some (page_in pages (k + i)) else None)
+frames_from-at pages k [] i =
     let none : Option (List ℕ) = None in
-    get_or_past [] i none (omega arith) ∙ ap (λ b. if b then Some (page_of chunks (k + i)) else None) (sym (get_or_past [] i false (omega arith)))
-frames_from-at chunks k (in_use ∷ rest) zero =
-    let e : k ≡ k + zero = omega arith in ap (λ n. if in_use then Some (page_of chunks n) else None) e
-frames_from-at chunks k (in_use ∷ rest) (suc i) =
+    get_or_past [] i none (omega arith) ∙ ap (λ b. if b then Some (page_in pages (k + i)) else None) (sym (get_or_past [] i false (omega arith)))
+frames_from-at pages k (in_use ∷ rest) zero =
+    let e : k ≡ k + zero = omega arith in ap (λ n. if in_use then Some (page_in pages n) else None) e
+frames_from-at pages k (in_use ∷ rest) (suc i) =
     let e : k + 1 + i ≡ k + suc i = omega arith in
-    frames_from-at chunks (k + 1) rest i ∙ ap (λ n. if get_or rest i false then Some (page_of chunks n) else None) e
+    frames_from-at pages (k + 1) rest i ∙ ap (λ n. if get_or rest i false then Some (page_in pages n) else None) e
 
 count_cons : {X : Type 0} (f : X → Bool) (x : X) (xs : List X) → count_by f (x ∷ xs) ≡ cond (f x) 1 0 + count_by f xs
 count_cons f x xs = sum_by-cons (λ y. cond (f y) 1 0) x xs
 
-pub frames_from-count : (chunks : List (List (List ℕ))) (k : ℕ) (used : List Bool) → count_by is_some (frames_from chunks k used) ≡ used_count used
-frames_from-count chunks k [] = refl
-frames_from-count chunks k (true ∷ rest) =
-    rw (count_cons is_some (Some (page_of chunks k)) (frames_from chunks (k + 1) rest), count_cons (λ (u : Bool). u) true rest) (ap (λ n. 1 + n) (frames_from-count chunks (k + 1) rest))
-frames_from-count chunks k (false ∷ rest) =
+pub frames_from-count : (pages : List (List ℕ)) (k : ℕ) (used : List Bool) → count_by is_some (frames_from pages k used) ≡ used_count used
+frames_from-count pages k [] = refl
+frames_from-count pages k (true ∷ rest) =
+    rw (count_cons is_some (Some (page_in pages k)) (frames_from pages (k + 1) rest), count_cons (λ (u : Bool). u) true rest) (ap (λ n. 1 + n) (frames_from-count pages (k + 1) rest))
+frames_from-count pages k (false ∷ rest) =
     let none : Option (List ℕ) = None in
-    rw (count_cons is_some none (frames_from chunks (k + 1) rest), count_cons (λ (u : Bool). u) false rest) (ap (λ n. 0 + n) (frames_from-count chunks (k + 1) rest))
+    rw (count_cons is_some none (frames_from pages (k + 1) rest), count_cons (λ (u : Bool). u) false rest) (ap (λ n. 0 + n) (frames_from-count pages (k + 1) rest))
 
-pub frames_from-length : (chunks : List (List (List ℕ))) (k : ℕ) (used : List Bool) → length (frames_from chunks k used) ≡ length used
-frames_from-length chunks k [] = refl
-frames_from-length chunks k (in_use ∷ rest) = ap suc (frames_from-length chunks (k + 1) rest)
+pub frames_from-length : (pages : List (List ℕ)) (k : ℕ) (used : List Bool) → length (frames_from pages k used) ≡ length used
+frames_from-length pages k [] = refl
+frames_from-length pages k (in_use ∷ rest) = ap suc (frames_from-length pages (k + 1) rest)
 
 -- the frames rest on the pages alone
-pub frames_from-same : (old new : List (List (List ℕ))) → ((i : ℕ) → page_of new i ≡ page_of old i) → (k : ℕ) (used : List Bool) → frames_from new k used ≡ frames_from old k used
+pub frames_from-same : (old new : List (List ℕ)) → ((i : ℕ) → page_in new i ≡ page_in old i) → (k : ℕ) (used : List Bool) → frames_from new k used ≡ frames_from old k used
 frames_from-same old new same k [] = refl
 frames_from-same old new same k (in_use ∷ rest) =
     rw (same k, frames_from-same old new same (k + 1) rest) refl

@@ -1,8 +1,8 @@
 //! Frames of 4,096 bytes from a pool of bounded size. Only `Pool::reserve` takes memory.
 #![tactic(auto)]
 
-mod chunk;
 mod page;
+mod pages;
 mod pool;
 #[cfg(test)]
 mod tests;

@@ -1,12 +1,12 @@
 //! The pool and its frames.
 
-ghost use Rattle.std.specs.Prelude.{◌≡◌, ◌+◌, ◌-◌, ◌*◌, ◌<◌, ◌≤◌, ◌↔◌, false, true, length, vec_len, Some, IsSome, is_some, slice_index_or, slice_set, count_by, IfSome, IfNone, IfOk, OnOk, OnErr, Err, ℕ};
+ghost use Rattle.std.specs.Prelude.{◌≡◌, ◌+◌, ◌<◌, ◌≤◌, ◌↔◌, false, true, length, Some, IsSome, is_some, slice_index_or, count_by, IfSome, IfNone, OnOk, OnErr, Err};
 ghost use Rattle.std.specs.Borrow.{Lends, sem, Array, u8 as byte};
-ghost use Rattle.page_pool.specs.Pages.{overwritten, page_of};
+ghost use Rattle.page_pool.specs.Pages.{overwritten};
 ghost use Rattle.page_pool.specs.Frames.{no_frames, reserved, with_bytes, frame_at, bytes_at, IsInUse, IsTaken, IsWritten, IsGiven, IsWithin};
 ghost use Rattle.page_pool.specs.Storage.{used_count};
 
-use crate::chunk::{CHUNK_PAGES, Chunk};
+use crate::pages::Pages;
 use std::alloc::{AllocError, Global};
 use std::marker::Model;
 
@@ -48,7 +48,6 @@ impl From<AllocError> for PoolFault {
 /// first touched when something is written to it.
 #[derive(Drop)]
 pub struct Pool {
-    alloc: Global,
     most: usize,
     // Whether each frame that was ever taken is in use, by its number.
     used: Vec<bool>,
@@ -58,8 +57,8 @@ pub struct Pool {
     total: usize,
     // Where the next frame that isn't in use is looked for first.
     next: usize,
-    // The pages of all frames, 64 a chunk.
-    chunks: Vec<Chunk>,
+    // The pages of all frames, by their numbers.
+    pages: Pages,
 }
 
 impl Model for Pool {
@@ -71,7 +70,7 @@ impl Model for Pool {
     ghost use Rattle.page_pool.specs.Storage.{IsSound, frames_from};
 
     ghost view = { λ p. record {
-      frames = frames_from p.chunks.items 0 p.used.items;
+      frames = frames_from p.pages.pages 0 p.used.items;
       in_use = p.in_use;
       spare = p.total - p.in_use;
       most = p.most;
@@ -88,13 +87,12 @@ impl Pool {
         ensures { result ≡ no_frames most }
     {
         Pool {
-            alloc,
             most,
             used: Vec::new(alloc),
             in_use: 0,
             total: 0,
             next: 0,
-            chunks: Vec::new(alloc),
+            pages: Pages::new(alloc),
         }
     }
 
@@ -129,7 +127,7 @@ impl Pool {
             return Ok(());
         }
         self.used.reserve(count - self.used.len())?;
-        add_chunks(self.alloc, &mut self.chunks, count / CHUNK_PAGES + 1)?;
+        self.pages.reserve(count)?;
         self.total = count;
         Ok(())
     }
@@ -162,7 +160,7 @@ impl Pool {
         ensures { IsGiven self.old self.new frame }
     {
         let number = frame.number;
-        self.chunks[number / CHUNK_PAGES].clear(number % CHUNK_PAGES);
+        self.pages.clear(number);
         self.used[number] = false;
         self.in_use -= 1;
         self.next = number;
@@ -175,7 +173,7 @@ impl Pool {
         ensures lookup { frame_at self.now frame.now ≡ Some result.now }
         ensures len { length result.now ≡ 4096 }
     {
-        self.chunks[frame.number / CHUNK_PAGES].bytes(frame.number % CHUNK_PAGES)
+        self.pages.bytes(frame.number)
     }
 
     /// The 4,096 bytes of a frame, for writing.
@@ -185,8 +183,7 @@ impl Pool {
         ensures value { result.now ≡ bytes_at self.old frame.now }
         ensures len { length result.now ≡ 4096 }
     {
-        let chunk = &mut self.chunks[frame.number / CHUNK_PAGES];
-        chunk.bytes_mut(frame.number % CHUNK_PAGES)
+        self.pages.bytes_mut(frame.number)
     }
 
     /// Writes bytes over those of a frame from `at` on.
@@ -195,7 +192,7 @@ impl Pool {
         requires fits { at + length bytes.now ≤ 4096 }
         ensures { IsWritten self.old self.new frame.now (overwritten (bytes_at self.old frame.now) at bytes.now) }
     {
-        self.chunks[frame.number / CHUNK_PAGES].write(frame.number % CHUNK_PAGES, at, bytes);
+        self.pages.write(frame.number, at, bytes);
     }
 
     /// Copies the bytes of a frame to another.
@@ -204,22 +201,9 @@ impl Pool {
         requires to { IsInUse self.old to.now }
         ensures { IsWritten self.old self.new to.now (bytes_at self.old from.now) }
     {
-        let page = self.chunks[from.number / CHUNK_PAGES].copied(from.number % CHUNK_PAGES);
-        self.chunks[to.number / CHUNK_PAGES].set(to.number % CHUNK_PAGES, page);
+        let page = self.pages.copied(from.number);
+        self.pages.set(to.number, page);
     }
-}
-
-// Adds chunks that nothing was written to, up to so many. Where memory is wanting, some of them.
-fn add_chunks(alloc: Global, chunks: &mut Vec<Chunk>, count: usize) -> Result<(), AllocError>
-    ensures ok { OnOk result (count ≤ vec_len chunks.new) }
-    ensures more { vec_len chunks.old ≤ vec_len chunks.new }
-    ensures same { (k : ℕ) → page_of chunks.new.items k ≡ page_of chunks.old.items k }
-{
-    for _ in chunks.len()..count {
-        let chunk = Chunk::new(alloc)?;
-        chunks.push(chunk)?;
-    }
-    Ok(())
 }
 
 // The number of a frame that isn't in use: `first`, or else the least. None where each is in use.

@@ -1,6 +1,6 @@
 use Rattle.std.proofs.Common.{◌≡◌, ◌≤◌, ◌+◌, ◌-◌, ◌++◌, length, replicate, vec_len, vec_capacity}
 use Rattle.page_pool.specs.Pages.{blank_page}
-use Rattle.page_pool.proofs.chunk.Chunk.reach.Given as goal
+use Rattle.page_pool.proofs.pages.Pages.reach.Given as goal
 
 abbrev pub invariant-loop : goal.invariant-loop
 invariant-loop l = record {
