@@ -26,7 +26,8 @@ loop-made-init c =
 pub returns-then-words-eq0-clause-makes : goal.returns-then-words-eq0-clause-makes
 returns-then-words-eq0-clause-makes c w r a h =
     let before = c.loop-made.invariant.makes w r a h in
-    let all = more-MakesShadowWords c.loop-made.made c.stretch_ahead-words.result c.loop-made.self c.stretch_ahead-words.new.self w r before (c.stretch_ahead-words.ensures.makes w (run_from w r (shadow_moves c.loop-made.made)) a before.shows) in
+    let all = more-MakesShadowWords c.loop-made.made c.stretch_ahead-words.result c.loop-made.self c.stretch_ahead-words.new.self w r before
+    (c.stretch_ahead-words.ensures.makes w (run_from w r (shadow_moves c.loop-made.made)) a before.shows) in
     let same : c.loop-made.made + c.stretch_ahead-words.result ≡ c.loop-made.made = omega (arith, c.if-words-eq0.true) in
     subst (λ (n : ℕ). MakesShadowWords n c.stretch_ahead-words.new.self w r) same all
 
