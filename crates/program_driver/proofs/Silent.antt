@@ -6,7 +6,7 @@ use Rattle.spec_base.specs.declared.note.Move.{Move}
 use Rattle.spec_base.specs.declared.note.Move.TheVariants.{O, S, T, D}
 use Rattle.spec_base.specs.declared.note.ShadowState.{ShadowState}
 use Rattle.run_model.specs.Run.{World, Run, Usual, opened_run}
-use Rattle.run_model.specs.ShadowMoves.{is_running, shadow_plan}
+use Rattle.run_model.specs.ShadowMoves.{is_running, fetch_shadow, shadow_plan}
 use Rattle.run_model.specs.Moves.{Moves, step, run, run_from, is_idle}
 use Rattle.run_model.specs.Patterns.{Pattern}
 use Rattle.run_laws.specs.OwnLaws.{Accepted, OwnPart}
@@ -18,7 +18,7 @@ use Rattle.move_requests.proofs.Snoc.{moves_add_up}
 use Rattle.runner.specs.Shows.{Shows}
 use Rattle.runner.specs.Stretches.{AreOwnWords, MakesOwnWords, IsShadowWord, AreShadowWords, shadow_moves, MakesShadowWords, StopsShadow}
 use Rattle.runner.specs.declared.runner.Runner.{Runner}
-use Rattle.runner.proofs.ShadowSteps.{asks-running, asks-waiting, step-waiting}
+use Rattle.runner.proofs.ShadowSteps.{asks-running, asks-waiting, step-waiting, not-call}
 use Rattle.program_driver.specs.Progress.{Progress, MakesSome, StopsAt, StopsOnly}
 use Rattle.program_driver.proofs.Driven.{firsts, moves-Progress}
 use Rattle.program_driver.proofs.Idling.{silent-hears, idles, idles-firsts, run-append}
@@ -98,7 +98,7 @@ own-Makes now new n makes w r acc shows = let own = makes w r acc shows in recor
 
 shadow-asks : (w : World) (r : Run) → IsShadowWord w r → asks w r S ≡ Nothing
 shadow-asks w r word =
-    asks-running w r word.on (ap (λ (s : ShadowState). is_running s) word.runs) ∙ ap (λ b. asks_if b (assuming_asks (shadow_plan w r))) word.no_call
+    asks-running w r word.on (ap (λ (s : ShadowState). is_running s) word.runs) ∙ ap (λ b. asks_if b (assuming_asks (shadow_plan w r))) (not-call (fetch_shadow w r.shadow.pc) word.no_call)
 
 -- it leaves what is the program's
 shadow-on : (w : World) (r : Run) → IsShadowWord w r → (step w r (S, Usual)).end ≡ None

@@ -1,8 +1,10 @@
 -- A move of the shadow, and what it asks.
-use Rattle.std.proofs.Common.{◌≡◌, Bool, true, false, not, ◌&&◌, ◌||◌, Option, None, refl, sym, ap, subst, ◌∙◌}
+use Rattle.std.proofs.Common.{◌≡◌, Bool, true, false, not, ◌&&◌, ◌||◌, Option, Some, None, refl, sym, ap, subst, ◌∙◌}
 use Rattle.spec_base.specs.declared.note.Move.TheVariants.{S, T}
 use Rattle.spec_base.specs.declared.note.ShadowState.{ShadowState}
 use Rattle.spec_base.specs.declared.note.ShadowState.TheVariants.{Never, Running, Stopped, Parked}
+use Rattle.rv_decode.specs.declared.instr.Instr.{Instr}
+use Rattle.rv_decode.specs.declared.instr.Instr.TheVariants.{Hcall}
 use Rattle.run_model.specs.Run.{World, Run, RunEnd, Answer}
 use Rattle.run_model.specs.ShadowMoves.{is_running, is_call_word, fetch_shadow, shadow_plan, shadow_step, assumed}
 use Rattle.run_model.specs.Moves.{begun, step, step_unless, shadow_while, is_idle}
@@ -10,6 +12,7 @@ use Rattle.program_model.specs.Calls.{CallPlan}
 use Rattle.world_io.specs.Outside.{StoreState}
 use Rattle.runner.specs.ShadowGoes.{Assumes, StoreAnswers}
 use Rattle.runner.specs.Shows.{Shows}
+use Rattle.runner.specs.Stretches.{is_key_or_call}
 use Rattle.runner.specs.declared.runner.Runner.{Runner}
 use Rattle.move_requests.specs.Asked.{Asked, Nothing, asks, asks_unless, asks_if, assuming_asks}
 
@@ -18,6 +21,11 @@ running-is Running e = refl
 running-is Never e = absurd (let f : false ≡ true = e in cc)
 running-is Stopped e = absurd (let f : false ≡ true = e in cc)
 running-is (Parked cause) e = absurd (let f : false ≡ true = e in cc)
+
+-- a word that is neither an HKEY nor an HCALL is no HCALL
+pub not-call : (i : Option Instr) → is_key_or_call i ≡ false → is_call_word i ≡ false
+not-call (Some (Hcall unhinted)) none = none
+not-call _ none = refl
 
 module _ (w : World) (r : Run) (goes : r.end ≡ None) where
   -- a running shadow asks what its call asks

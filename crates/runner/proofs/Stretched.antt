@@ -12,7 +12,7 @@ use Rattle.rv_decode.specs.declared.instr.Instr.TheVariants.{Hgate}
 use Rattle.rv_model.specs.Effect.{Effect, Next, Stored, Trapped, Called, Gated, gate_effect}
 use Rattle.rv_model.specs.Space.{Space}
 use Rattle.program_model.specs.PlainRun.{State}
-use Rattle.run_model.specs.Run.{World, Run, RunEnd, Traps, Answer, Usual}
+use Rattle.run_model.specs.Run.{World, Run, Traps, Answer, Usual}
 use Rattle.run_model.specs.OwnMoves.{stays_behind, own_in}
 use Rattle.run_model.specs.Moves.{begun, step, run_from}
 use Rattle.run_laws.specs.OwnLaws.{Accepted}

@@ -1,23 +1,20 @@
 -- What a word of the shadow, or a part of one, does to a runner (this project's own).
-use Rattle.std.specs.Prelude.{◌≡◌, ◌≤◌, ℕ, Bool, true, false, Option, Some, None, List}
+use Rattle.std.specs.Prelude.{◌≡◌, ◌≤◌, Bool, false, Option, Some, None, List}
 use Rattle.spec_base.specs.Files.{Files}
 use Rattle.spec_base.specs.declared.note.Move.{Move}
 use Rattle.spec_base.specs.declared.note.ShadowState.TheVariants.{Running}
-use Rattle.rv_decode.specs.declared.instr.Instr.{Instr}
-use Rattle.rv_decode.specs.declared.instr.Instr.TheVariants.{Hcall, Store}
-use Rattle.rv_model.specs.Space.{Space}
+use Rattle.rv_decode.specs.declared.instr.Instr.TheVariants.{Hcall}
 use Rattle.program_model.specs.Calls.{CallPlan}
 use Rattle.code_model.specs.Regions.{slots_in_use}
 use Rattle.code_model.specs.Tables.{AreConsistent}
 use Rattle.run_model.specs.Run.{World, Run, Answer}
-use Rattle.run_model.specs.Moves.{begun, step}
+use Rattle.run_model.specs.Moves.{step}
 use Rattle.run_model.specs.ShadowMoves.{fetch_shadow, is_call_word, shadow_plan, shadow_step, assumed}
 use Rattle.run_laws.specs.OwnLaws.{Accepted}
 use Rattle.mark_laws.specs.Agreement.{HasAll, assumed_answer}
 use Rattle.mark_laws.specs.Sizes.{TrueSizes}
 use Rattle.hart_mem.specs.Held.{space_of}
-use Rattle.hart_step.specs.Core.{Core, core_of}
-use Rattle.hart_step.specs.Step.{stepped, effect_here}
+use Rattle.hart_step.specs.Core.{core_of}
 use Rattle.hart_step.specs.declared.event.Event.{Event}
 use Rattle.word_laws.specs.Shown.{with_shadow}
 use Rattle.word_laws.specs.ShadowWords.{ShadowGoes, MeetsGate}
@@ -36,23 +33,9 @@ pub record StepsTo (e : Event) (u : Runner) (w : World) (r : Run) : Type 0 where
   pub goes : ShadowGoes e w r (core_of u.shadow) (space_of u.mem)
   pub shows : Shows u w (with_shadow r (core_of u.shadow) (space_of u.mem))
 
--- the same before the move is counted
-pub record StepsAhead (e : Event) (u : Runner) (w : World) (r : Run) : Type 0 where
-  pub goes : ShadowGoes e w (begun r) (core_of u.shadow) (space_of u.mem)
-  pub shows : Shows u w (with_shadow r (core_of u.shadow) (space_of u.mem))
-
 -- at most as many regions are in use as were counted
 abbrev pub AreCounted : Runner → Type 0
 AreCounted v = slots_in_use (space_of v.mem).shared ≤ v.counts.regions_most
-
--- a step of this hart leaves the memory as it is, whichever frames are wanting
-abbrev pub LeavesMemory : Core → Space → Type 0
-LeavesMemory c s = (lacks : ℕ → Bool) → (stepped lacks (effect_here c s) c s).space ≡ s
-
--- a word that stores
-abbrev pub is_store : Option Instr → Bool
-is_store (Some (Store op rs1 rs2 imm)) = true
-is_store _ = false
 
 -- a word that is no call: the move is made, whatever the outside answers
 pub record IsMade (u : Runner) (w : World) (r : Run) : Type 0 where

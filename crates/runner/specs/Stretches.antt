@@ -7,7 +7,7 @@ use Rattle.rv_decode.specs.declared.instr.Instr.{Instr}
 use Rattle.rv_decode.specs.declared.instr.Instr.TheVariants.{Hkey, Hcall}
 use Rattle.run_model.specs.Run.{World, Run, Usual}
 use Rattle.run_model.specs.OwnMoves.{stays_behind}
-use Rattle.run_model.specs.ShadowMoves.{fetch_shadow, is_call_word}
+use Rattle.run_model.specs.ShadowMoves.{fetch_shadow}
 use Rattle.run_model.specs.Moves.{Moves, step, run_from}
 use Rattle.hart_mem.specs.Held.{Held, lacks_frame, space_of}
 use Rattle.hart_step.specs.Core.{HeldCore, core_of}
@@ -62,17 +62,23 @@ words_done (suc n) r =
 
 -- ---- words of the shadow
 
--- the next move of the shadow, in a run that goes on, is a word that is no call
+-- HKEY, HCALL 0 or HCALL 1
+abbrev pub is_key_or_call : Option Instr → Bool
+is_key_or_call (Some (Hkey rd)) = true
+is_key_or_call (Some (Hcall unhinted)) = true
+is_key_or_call _ = false
+
+-- the next move of the shadow, in a run that goes on, is a word that is none of these
 pub record IsShadowWord (w : World) (r : Run) : Type 0 where
   pub on : r.end ≡ None
   pub runs : r.shadow.state ≡ Running
-  pub no_call : is_call_word (fetch_shadow w r.shadow.pc) ≡ false
+  pub no_call : is_key_or_call (fetch_shadow w r.shadow.pc) ≡ false
 
 -- so many moves of the shadow
 abbrev pub shadow_moves : ℕ → Moves
 shadow_moves n = replicate n (S, Usual)
 
--- each of so many moves of the shadow is a word that is no call
+-- each of so many moves of the shadow is such a word
 abbrev pub AreShadowWords : World → ℕ → Run → Type 0
 AreShadowWords w zero r = Unit {0}
 AreShadowWords w (suc n) r = IsShadowWord w r × AreShadowWords w n (step w r (S, Usual))
@@ -81,17 +87,6 @@ AreShadowWords w (suc n) r = IsShadowWord w r × AreShadowWords w n (step w r (S
 pub record MakesShadowWords (n : ℕ) (u : Runner) (w : World) (r : Run) : Type 0 where
   pub words : AreShadowWords w n r
   pub shows : Shows u w (run_from w r (shadow_moves n))
-
--- a runner made one
-pub record MakesShadowWord (u : Runner) (w : World) (r : Run) : Type 0 where
-  pub word : IsShadowWord w r
-  pub shows : Shows u w (step w r (S, Usual))
-
--- HKEY, HCALL 0 or HCALL 1
-abbrev pub is_key_or_call : Option Instr → Bool
-is_key_or_call (Some (Hkey rd)) = true
-is_key_or_call (Some (Hcall unhinted)) = true
-is_key_or_call _ = false
 
 -- there is no further one: the run has ended, or the shadow doesn't run, or its next word is an HKEY or an HCALL
 abbrev pub StopsShadow : World → Run → Type 0

@@ -4,7 +4,7 @@ ghost use Rattle.std.specs.Prelude.{◌≡◌, ◌+◌, ◌<◌, ◌≤◌, ◌^
 ghost use Rattle.run_model.specs.Run.{World, Run};
 ghost use Rattle.run_model.specs.Moves.{Moves, begun, silent, is_idle, run_from};
 ghost use Rattle.runner_parts.specs.Counts.{AreBelow, one_move};
-ghost use Rattle.runner_parts.specs.Idle.{AreIdle};
+ghost use Rattle.runner_parts.specs.Idle.{AreIdle, idle_for};
 ghost use Rattle.runner.specs.Shows.{Shows};
 
 use crate::runner::Runner;
@@ -54,6 +54,20 @@ impl Runner {
         self.counts.begin();
     }
 
+    // So many moves in which nothing else is counted.
+    pub(crate) fn pass(&mut self, moves: u64)
+        requires { self.old.counts.moves + moves ≤ 2 ^ 63 }
+        ensures shows { (w : World) (r : Run) → Shows self.old w r → Shows self.new w (idle_for moves r) }
+        ensures kept { (self.new.mem ≡ self.old.mem) × (self.new.counts.regions_most ≡ self.old.counts.regions_most) }
+        ensures moves { self.new.counts.moves ≡ self.old.counts.moves + moves }
+        ensures end { self.new.end ≡ self.old.end }
+    {
+        if moves != 0 {
+            self.fall_silent();
+            self.counts.pass(moves);
+        }
+    }
+
     /// Whether a move is idle in a run that goes on.
     pub fn rests(&self, step: Move) -> bool
         ensures { (w : World) (r : Run) → Shows self.now w r → result ≡ is_idle step r }
@@ -73,9 +87,6 @@ impl Runner {
         ensures moves { self.new.counts.moves ≡ self.old.counts.moves + moves }
         ensures end { self.new.end ≡ self.old.end }
     {
-        if moves != 0 {
-            self.fall_silent();
-            self.counts.pass(moves);
-        }
+        self.pass(moves);
     }
 }

@@ -33,8 +33,6 @@ impl Runner {
     pub(crate) fn arrive(&mut self)
         requires since { self.old.counts.shadow_since < self.old.counts.moves }
         ensures shows { (w : World) (r : Run) → Shows self.old w r → Shows self.new w (arrived w.image.layout r) }
-        ensures kept { (self.new.mem ≡ self.old.mem) × (self.new.state ≡ self.old.state) }
-        ensures regions { self.new.counts.regions_most ≡ self.old.counts.regions_most }
         ensures moves { self.new.counts.moves ≡ self.old.counts.moves }
         ensures end { self.new.end ≡ self.old.end }
     {
@@ -58,6 +56,7 @@ impl Runner {
     pub(crate) fn end_word(&mut self)
         requires since { self.old.counts.shadow_since < self.old.counts.moves }
         ensures shows { (w : World) (r : Run) → Shows self.old w r → Shows self.new w (word_counted (arrived w.image.layout r)) }
+        ensures counted { AreCounted self.new }
         ensures moves { self.new.counts.moves ≡ self.old.counts.moves }
         ensures end { self.new.end ≡ self.old.end }
     {
