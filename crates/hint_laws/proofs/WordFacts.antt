@@ -13,18 +13,18 @@ use Rattle.rv_decode.specs.declared.instr.Instr.TheVariants.{Lui, Auipc, Jal, Ja
 use Rattle.rv_decode.specs.declared.instr.LoadOp.{LoadOp}
 use Rattle.rv_model.specs.Memory.{Memory, all_from}
 use Rattle.rv_model.specs.Registers.{Registers, reg, with_reg}
-use Rattle.rv_model.specs.Rights.{Rights, in_private, shadow_rights}
+use Rattle.rv_model.specs.Rights.{Rights, in_private}
 use Rattle.rv_model.specs.Arithmetic.{is_taken, store_width}
 use Rattle.rv_model.specs.Effect.{Effect, effect, after, jump_if, branch_if, load_if, store_if}
-use Rattle.rv_model.specs.Space.{shadow_sees}
 use Rattle.program_model.specs.Calls.{CallPlan, Set, Look, Read, Write, Exit}
 use Rattle.program_model.specs.PlainRun.{State}
-use Rattle.run_model.specs.Run.{World, Run, ShadowHart, Answer, Usual, Took, Failed, Lost, rewritten_words}
+use Rattle.run_model.specs.Run.{World, Run, ShadowHart, Answer, Usual, Took, Failed, Lost}
 use Rattle.run_model.specs.ShadowMoves.{fetch_shadow, is_running, is_arrival, is_call_word, shadow_at, parked, arrived_if, word_counted, shadow_plan, assumed, assumed_with, look_assumed, hint_given, fill, fill_if, is_filled, shadow_stores, shadow_after, shadow_at_word, shadow_in, shadow_step}
 use Rattle.own_laws.proofs.Reached.{false_true}
 use Rattle.shadow_laws.proofs.Sound.{parked_running}
 use Rattle.shadow_laws.proofs.LinkSteps.{stores-go_on}
 use Rattle.mark_laws.specs.Agreement.{assumed_answer, is_exit, is_read}
+use Rattle.own_laws.proofs.InvisibleShadow.{shadow_effect}
 
 -- ---- what a word is said to do
 
@@ -481,8 +481,7 @@ counted-parks w r y false cause f s =
 module _ (w : World) (x : Answer) (r : Run) where
   -- what the word comes to
   abbrev word_effect : Instr → Effect
-  word_effect i =
-      effect Shadow (shadow_rights w.image.layout) (shadow_sees w.image.layout (rewritten_words w) r.own.memory r.shared r.shadow_page) r.shadow.registers r.shadow.pc i
+  word_effect i = shadow_effect w r i
 
   -- the run behind it, before it is counted
   abbrev behind_word : Instr → Run

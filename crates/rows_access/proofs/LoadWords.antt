@@ -16,18 +16,19 @@ use Rattle.code_model.specs.Places.{block_at}
 use Rattle.code_model.specs.Regions.{copy_place}
 use Rattle.side_model.specs.Hart.{Regs, get, put, Priv}
 use Rattle.code_model.specs.Tables.{Tabs, TableOk}
-use Rattle.side_model.specs.Places.{Width, W1, W2, W4, W8, width_of, Loading, LoadTail, offset_of, Place, InBlock, InHelper, code, HasBlock}
+use Rattle.side_model.specs.Places.{Width, W1, W2, W4, W8, width_of, Loading, LoadTail, offset_of, Place, InBlock, InHelper, code, HasBlock, IsInstruction}
 use Rattle.side_model.specs.Words.{Out, Goes, Loads, exec, exec_some}
 use Rattle.side_model.specs.Rows.{Led, on, leaps, arrives, takes_entry, takes_program, takes_copy}
 use Rattle.side_model.specs.JumpRows.{high_part, with_31, with_30_31}
 use Rattle.side_model.proofs.Numbers.{TextFits, text-fits}
 use Rattle.side_model.proofs.JumpWords.{forks}
-use Rattle.rows_access.specs.Accesses.{load_size, may_access, place_of, seen, IsInstruction, Allows, saved, Unchanged, AccessFaults}
+use Rattle.rows_access.specs.Accesses.{load_size, may_access, place_of, seen, Allows, saved, AccessFaults}
 use Rattle.rows_access.specs.CheckRows.{c1}
 use Rattle.rows_access.specs.LoadRows.{LoadRow, b1, b2, b3, b4, b5, b6, b7, b8, b9, t1, t2, t3, t4, t5, t6, t7, t8, t9, t10, t11, t12, t13, t14, t15, LoadsRow, LoadArrives, LoadLeads, LoadStarts}
 use Rattle.rows_access.proofs.Reach.{Reached, reached, some-width}
 use Rattle.rows_access.proofs.CheckWords.{Checks, check-words}
 use Rattle.rows_access.proofs.AccessPlaces.{and_255, entry-offset, entry-at, entry-from, slot-bytes, no-slot, slot-place, load-width, entry-most, InCopies, in-copies, place-from, loads-program, loads-copy}
+use Rattle.side_model.specs.Tables.{Unchanged}
 
 -- the jump from a load's block to its helper
 to_helper : (op : LoadOp) → even (plus_int (high_part (helpers_start + load_helper op)) (lo (helpers_start + load_helper op))) ≡ helpers_start + offset_of (Loading (load_size op)) + 4 * 0

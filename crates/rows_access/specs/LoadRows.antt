@@ -16,12 +16,13 @@ use Rattle.code_model.specs.Places.{block_at}
 use Rattle.code_model.specs.Regions.{entry_address}
 use Rattle.side_model.specs.Hart.{Regs, get, put, Priv}
 use Rattle.code_model.specs.Tables.{Tabs, TableOk}
-use Rattle.side_model.specs.Places.{Width, Loading, LoadTail, Place, InBlock, InHelper, code}
+use Rattle.side_model.specs.Places.{Width, Loading, LoadTail, Place, InBlock, InHelper, code, IsInstruction}
 use Rattle.side_model.specs.Words.{exec_some}
 use Rattle.side_model.specs.Rows.{Led}
 use Rattle.side_model.specs.JumpRows.{high_part, with_31, with_30_31}
-use Rattle.rows_access.specs.Accesses.{load_size, may_access, place_of, seen, IsInstruction, Allows, spilled, asked, saved, Unchanged, AccessFaults}
+use Rattle.rows_access.specs.Accesses.{load_size, may_access, place_of, seen, Allows, spilled, asked, saved, AccessFaults}
 use Rattle.rows_access.specs.CheckRows.{CheckRow}
+use Rattle.side_model.specs.Tables.{Unchanged}
 
 -- the load at p of the program, with the program's registers q; `given` is the number that it loads, where that is known
 module _ (l : Layout) (p : ℕ) (op : LoadOp) (rd rs1 : ℕ) (imm : ℤ) (q : Regs) (given : Option ℕ) where

@@ -1,6 +1,5 @@
 -- How the block of an instruction follows the program: it arrives where the instruction goes on, with the registers that it gives, or parks where it can't go on (this project's own).
-use Rattle.std.specs.Prelude.{ℕ, ◌%◌, ◌≡◌, ◌≤◌, ◌<◌, Bool, true, false, IsTrue}
-use Rattle.spec_base.specs.Layout.{is_lawful}
+use Rattle.std.specs.Prelude.{ℕ, ◌≡◌, Bool, true, false}
 use Rattle.spec_base.specs.declared.layout.Layout.{Layout}
 use Rattle.spec_base.specs.declared.machine.Trap.{Trap}
 use Rattle.spec_base.specs.declared.machine.View.TheVariants.{Plain}
@@ -19,18 +18,7 @@ use Rattle.side_model.specs.Places.{Place}
 use Rattle.side_model.specs.Words.{Out}
 use Rattle.side_model.specs.Rows.{Led}
 use Rattle.side_model.specs.Sees.{HasRegs}
-
--- an instruction of the program stands at p
-pub record IsInstruction (l : Layout) (p : ℕ) : Type 0 where
-  pub lawful : IsTrue (is_lawful l)
-  pub above : l.text_start ≤ p
-  pub below : p < l.text_end
-  pub whole : p % 4 ≡ 0
-
--- a word leaves the tables and the memory
-pub record Unchanged (t : Tabs) (m : Memory) (t' : Tabs) (m' : Memory) : Type 0 where
-  pub tables : t' ≡ t
-  pub memory : m' ≡ m
+use Rattle.side_model.specs.Tables.{Unchanged}
 
 -- ---- what an instruction does
 

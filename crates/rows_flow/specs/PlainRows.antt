@@ -19,11 +19,12 @@ use Rattle.code_model.specs.Blocks.{block, guard_block}
 use Rattle.code_model.specs.Places.{block_at}
 use Rattle.side_model.specs.Hart.{Regs, get, put, Priv}
 use Rattle.code_model.specs.Tables.{Tabs, TableOk}
-use Rattle.side_model.specs.Places.{Place, InBlock, code}
+use Rattle.side_model.specs.Places.{Place, InBlock, code, IsInstruction}
 use Rattle.side_model.specs.Words.{exec_some}
 use Rattle.side_model.specs.Rows.{Led}
 use Rattle.side_model.specs.JumpRows.{high_part}
-use Rattle.rows_flow.specs.Following.{IsInstruction, Unchanged, Follows}
+use Rattle.rows_flow.specs.Following.{Follows}
+use Rattle.side_model.specs.Tables.{Unchanged}
 
 -- ---- instructions that only compute: two words
 

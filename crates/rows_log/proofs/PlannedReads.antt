@@ -18,6 +18,7 @@ use Rattle.code_model.specs.Regions.{shadowed}
 use Rattle.run_model.specs.Run.{World, Run}
 use Rattle.run_model.specs.ShadowMoves.{shadow_plan}
 use Rattle.code_model.specs.Tables.{all_regions}
+use Rattle.rv_model.proofs.DataLemmas.{all_from-at}
 
 -- ---- a read's bytes are data
 
@@ -130,23 +131,7 @@ read-planned w r d spot a e =
 
 -- the last byte of a stretch passes its test
 pub all_from-last : (test : ℕ → Bool) (a n : ℕ) → all_from test a (suc n) ≡ true → test (a + n) ≡ true
-unfolding all_from
-all_from-last test a zero h = let e : a ≡ a + 0 = omega arith in subst (λ (x : ℕ). test x ≡ true) e (first (test a) (all_from test (a + 1) 0) h)
-  where
-    first : (b c : Bool) → (b && c) ≡ true → b ≡ true
-    first true c h = refl
-    first false c h = absurd (no h)
-      where
-        no : false ≡ true → ⊥
-        no e = cc
-all_from-last test a (suc n) h = let e : a + 1 + n ≡ a + suc n = omega arith in subst (λ (x : ℕ). test x ≡ true) e (all_from-last test (a + 1) n (rest (test a) (all_from test (a + 1) (suc n)) h))
-  where
-    rest : (b c : Bool) → (b && c) ≡ true → c ≡ true
-    rest true c h = h
-    rest false c h = absurd (no h)
-      where
-        no : false ≡ true → ⊥
-        no e = cc
+all_from-last test a n h = all_from-at test (suc n) a n h (omega arith)
 
 -- data is below the end of the range, which is a multiple of 256
 pub data-region : (l : Layout) (a : ℕ) → is_data l a ≡ true → a / 256 < all_regions l

@@ -20,7 +20,7 @@ use Rattle.rv_model.specs.Registers.{Registers, reg, with_reg}
 use Rattle.rv_model.specs.Rights.{in_private, shadow_rights}
 use Rattle.rv_model.specs.Arithmetic.{store_width, is_taken, imm_result, imm_w_result, reg_result, reg_w_result}
 use Rattle.rv_model.specs.Effect.{Stored, effect, after, steps_on, jump_if, branch_if, load_effect, store_effect, even}
-use Rattle.rv_model.specs.Space.{program_byte, shadow_sees}
+use Rattle.rv_model.specs.Space.{program_byte}
 use Rattle.program_model.specs.Calls.{CallPlan, Set, Look, Read, Write, Exit, key_of}
 use Rattle.code_model.specs.Places.{block_at}
 use Rattle.code_model.specs.Regions.{entry_address, listed_address}
@@ -39,6 +39,7 @@ use Rattle.side_model.proofs.Private.{get_private-place, private-loads, HasPriv-
 use Rattle.side_model.proofs.Fetching.{offset-whole}
 use Rattle.side_model.proofs.Tabling.{HasTabs-below, HasTabs-above, HasTabs-entry, HasTabs-count, HasTabs-listed, all_regions-most}
 use Rattle.side_model.proofs.Views.{loads-private, loads-program, loads-shared, stores-private, stores-shared, entry_bytes, count_bytes, listed_bytes, link_byte, copy_byte, no_private_byte}
+use Rattle.own_laws.proofs.InvisibleShadow.{shadow_view}
 
 -- ---- places
 
@@ -106,7 +107,7 @@ module _ (w : World) (x : Answer) (base : ℕ) (Row : Place → Regs → Priv �
   lands h = Landed l base Row Arrives Why n h
 
   abbrev view : Memory
-  view = shadow_sees l (rewritten_words w) r.own.memory r.shared r.shadow_page
+  view = shadow_view w r
 
   abbrev rs : Registers
   rs = r.shadow.registers
