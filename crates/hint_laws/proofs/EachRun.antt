@@ -14,6 +14,7 @@ use Rattle.run_model.specs.Restarts.{from_restart}
 use Rattle.run_model.specs.Marks.{before_use}
 use Rattle.run_laws.specs.OwnLaws.{Accepted}
 use Rattle.run_laws.specs.HintLaws.{HintsAreReads, ShadowFollows, HintsUntilUse}
+use Rattle.own_laws.proofs.MoveLists.{run_from-snoc}
 use Rattle.shadow_laws.proofs.ShadowNumbers.{Sized, stock_of, run-sized}
 use Rattle.shadow_laws.proofs.ShadowRuns.{resting-stays}
 use Rattle.shadow_laws.proofs.Sound.{never_running, stopped_running, parked_running}
@@ -26,7 +27,6 @@ use Rattle.hint_laws.proofs.WordFacts.{WordLeaves, word-leaves, word-fills, fill
 use Rattle.hint_laws.proofs.OwnMoves.{IsFollowed, own-followed, fetch-followed, counted-followed}
 use Rattle.hint_laws.proofs.EachWord.{word-followed}
 use Rattle.hint_laws.proofs.Promises.{before-horizon, follows, follows_until_use}
-use Rattle.own_laws.proofs.MoveLists.{run_from-snoc}
 
 module _ (w : World) (a : Accepted w) where
   abbrev l : Layout

@@ -33,6 +33,7 @@ use Rattle.side_model.specs.Hart.{Regs}
 use Rattle.code_model.specs.Tables.{Tabs, TableOk}
 use Rattle.side_model.specs.Tables.{HasTabs}
 use Rattle.side_model.specs.Sees.{shade_of}
+use Rattle.side_model.specs.Places.{IsInstruction}
 use Rattle.side_model.proofs.Registers.{regs_of, HasRegs-of}
 use Rattle.shadow_laws.proofs.OwnShades.{watched_of}
 use Rattle.shadow_laws.proofs.ShadowRuns.{HasTables, has-tables, run-keeps, gate-site, restart-target, restart-at, has-box}
@@ -43,7 +44,6 @@ use Rattle.hint_laws.proofs.WithinSteps.{in_helper}
 use Rattle.hint_laws.proofs.Followed.{program_in, known, restart, inner, Works, Followed, works}
 use Rattle.hint_laws.proofs.OwnSince.{OwnSince, rests, counts, anew, own-since}
 use Rattle.hint_laws.proofs.Views.{agrees-as}
-use Rattle.side_model.specs.Places.{IsInstruction}
 
 -- ---- the instruction at a gate is a call
 

@@ -57,7 +57,7 @@ use Rattle.shadow_laws.proofs.AnyCalls as any
 use Rattle.shadow_laws.proofs.AnyCalls.{AnyCallRow, AnyCallNext, LeavesTables, is_sixth, is_seventh, at-call, any_call-leads}
 use Rattle.shadow_laws.proofs.ShadowNumbers.{Sized, stock_of}
 use Rattle.shadow_laws.proofs.Sound.{At, bare, is_helper, jump-place, Target, target-of, pad-target}
-use Rattle.shadow_laws.proofs.SoundSteps.{landed, next as step-to, Crossed, crossed-at, crossed-to}
+use Rattle.shadow_laws.proofs.SoundSteps.{landed, next as step-to, HasCrossed, crossed-at, crossed-to}
 use Rattle.mark_laws.proofs.OneInstruction.{true_false}
 use Rattle.hint_laws.proofs.Within.{known_from, AreSeen, Doing, does, ends, restarts, goes_to, joined, BehindRow, behind, Within, computing, quartering, branching, linking, padding, going, jumping, parking, guarded, loading, storing, calling, answered, restarting, unboxing}
 
@@ -471,7 +471,7 @@ module _ (w : World) (a : Accepted w) (x : Answer) (r : Run) (z : Sized (stock_o
       → LeadsOn (does p (Jal rd imm) q) n
   crossed p rd imm q n is at (stays d) = flow at (λ s k inner row v ok. (linking p rd imm q is (step-to w a x r z at s v ok row), inner-at s inner (inl refl) v)) d
   crossed p rd imm q n is at (crosses k register offset e to row less) =
-      let c : Crossed w (plus_int p imm) at.point r.shared after = crossed-to w a x r p rd imm at register offset e to (pad-target row) in
+      let c : HasCrossed w (plus_int p imm) at.point r.shared after = crossed-to w a x r p rd imm at register offset e to (pad-target row) in
       goes k (grind (arith, nat_tests, less))
       (padding p rd imm q (block l (plus_int p imm) c.word) is refl
       (crossed-at at.ok c (bare (PadRow l p rd (plus_int p imm) q)) row))

@@ -27,9 +27,9 @@ use Rattle.run_laws.specs.OwnLaws.{Accepted}
 use Rattle.own_laws.proofs.InvisibleShadow.{shadow_move-keeps}
 use Rattle.own_laws.proofs.Reached.{none_some}
 use Rattle.own_laws.proofs.Side.{Side, side_of, Kept}
+use Rattle.own_laws.proofs.OwnSteps.{own_step-by, fetch_of-by}
 use Rattle.mark_laws.specs.Agreement.{assumed_answer, HasAll}
 use Rattle.mark_laws.specs.Sizes.{TrueSizes, PlansFindAll, StatesFindAll, CallsKeepSizes, PerformedKeepSizes, NextKeepsSizes, StatesKeepSizes, SizesAreTrue}
-use Rattle.own_laws.proofs.OwnSteps.{own_step-by, fetch_of-by}
 
 -- ---- descriptors
 

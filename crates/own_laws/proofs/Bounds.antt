@@ -8,7 +8,6 @@ use Rattle.std.proofs.lemmas.Bool.{cases_lt}
 use Rattle.spec_base.specs.Word.{byte_of, word_of_int}
 use Rattle.spec_base.specs.Files.{Name, Files}
 use Rattle.spec_base.specs.declared.spot.ReadSpot.{ReadSpot}
-use Rattle.spec_base.specs.declared.machine.View.{View}
 use Rattle.spec_base.specs.declared.machine.View.TheVariants.{Plain, Program, Stub, Shadow}
 use Rattle.rv_decode.specs.declared.instr.Instr.{Instr}
 use Rattle.rv_decode.specs.declared.instr.Instr.TheVariants.{Lui, Auipc, Jal, Jalr, Branch, Load, Store, OpImm, OpImmW, Op, OpW, Fence, Ecall, Ebreak, Hgate, Hleave, Hcall, Illegal}
@@ -22,6 +21,7 @@ use Rattle.program_model.specs.Calls.{CallPlan, Set, Look, Read, Write, Exit, by
 use Rattle.program_model.specs.PlainRun.{State, Image, Taken, Step, Went, Traps, text_of, plan_of, performed, taken_by, after_effect, at_word, next, completed, next_unless, next_state, state_after, size_in}
 use Rattle.run_laws.specs.OwnLaws.{AllBytes}
 use Rattle.spec_base.specs.declared.layout.Layout.{Layout}
+use Rattle.spec_base.specs.declared.machine.View.{View}
 use Rattle.run_laws.specs.Numbers.{Lawful}
 use Rattle.own_laws.proofs.Offsets.{PlanFits, plan_by-fits, opened-lawful, after_read-lawful}
 use Rattle.rv_model.proofs.Results.{Bytes, load-small, imm_result-small, imm_w_result-small, reg_result-small, reg_w_result-small, wrap-small, word_of_int-small}

@@ -7,6 +7,7 @@ use Rattle.spec_base.specs.declared.note.ShadowState.TheVariants.{Never, Running
 use Rattle.spec_base.specs.declared.note.Move.{Move}
 use Rattle.spec_base.specs.declared.note.Move.TheVariants.{O, S, T, D}
 use Rattle.spec_base.specs.declared.spot.BlockSpot.{BlockSpot}
+use Rattle.spec_base.specs.Files.{Files}
 use Rattle.rv_decode.specs.declared.instr.Instr.{Instr}
 use Rattle.rv_model.specs.Memory.{Memory}
 use Rattle.rv_model.specs.Registers.{Registers}
@@ -31,7 +32,6 @@ use Rattle.own_laws.proofs.Side.{Side, side_of, with_side, Tally, Kept}
 use Rattle.own_laws.proofs.StubRows.{WordGoes, to_row, to_restarted, to_call, word_goes}
 use Rattle.own_laws.proofs.StubWords.{stub_side}
 use Rattle.own_laws.proofs.OwnSteps.{own_call-by, fetch_of-by, program_at-by}
-use Rattle.spec_base.specs.Files.{Files}
 
 -- ---- what is held in a run
 

@@ -561,11 +561,6 @@ stub_keeps_log w a ms x on p log passing leaving =
     let y : Entered w program gate = step-enters w a x program program.end refl (own_side w a ms) p (passing-view w on gate passing) in
     let q : State = program.own in
     let order' : log_head gate.shared ≤ log_tail gate.shared = subst (λ m. log_head m ≤ log_tail m) (sym y.shared) log.order in
-    let below' : log_tail gate.shared < 2 ^ 64 = subst (λ m. log_tail m < 2 ^ 64) (sym y.shared) log.below in
-    let start : Passage w (IsJudged w gate []) (IsRestarted w gate []) q (key_of (plan w q)) (q.registers 12) gate.shared gate.own_done gate.restarts gate =
-    at_word y.tally fresh 1 _ _ _ y.page r1 (Appends-same gate.shared below') refl
-    (record { done = sym (ap (λ p. p.tally.done) y.side); restarts = sym (ap (λ p. p.tally.restarts) y.side); asked = y.asked })
-    (y.side ∙ ap (λ rs. stub_side q y.tally 1 rs y.page) (sym (three-own q.registers))) in
     passage-ends w (IsJudged w gate on) (IsRestarted w gate on) q y.fits y.place y.key gate.shared order' gate.own_done gate.restarts gate (run_from w gate on) on (ap (λ p. p.gate) y.side) refl refl refl
     (λ log j. j) (λ z. z)
-    (run-passes w gate q y.fits y.place y.key gate.shared order' gate.restarts [] on gate (run_from-nil w gate) start passing) leaving
+    (passes_on w a ms x on p log passing) leaving

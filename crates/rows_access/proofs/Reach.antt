@@ -9,12 +9,12 @@ use Rattle.spec_base.specs.declared.layout.Version.TheVariants.{One, Two}
 use Rattle.spec_base.specs.declared.layout.Layout.{Layout}
 use Rattle.rv_model.specs.Memory.{all_from}
 use Rattle.rv_model.specs.Rights.{is_data}
+use Rattle.rv_model.proofs.DataLemmas.{all_from-fails, all_from-holds, all_from-inside}
 use Rattle.side_model.specs.Places.{Width, W1, W2, W4, W8, width_of, reaching}
 use Rattle.code_model.specs.Tables.{all_regions}
 use Rattle.side_model.proofs.Numbers.{TextFits}
-use Rattle.rows_access.specs.Accesses.{may_access}
-use Rattle.rv_model.proofs.DataLemmas.{all_from-fails, all_from-holds, all_from-inside}
 use Rattle.side_model.proofs.Views.{range-most}
+use Rattle.rows_access.specs.Accesses.{may_access}
 
 -- ---- tests over a stretch
 

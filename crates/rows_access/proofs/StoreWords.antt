@@ -2,6 +2,7 @@
 use Rattle.std.proofs.Common.{◌≡◌, ℕ, ◌+◌, ◌-◌, ◌*◌, ◌/◌, ◌%◌, ◌^◌, ◌<◌, ◌≤◌, inl, inr, Bool, true, false, not, ◌==◌, ℤ, pos, negsuc, List, ◌++◌, refl, ◌∙◌, ap, sym, subst, arith, cond, nat_lt, nat_le, bit_and, Option, Some}
 use Rattle.std.proofs.lemmas.Bool.Decides.{nat_tests}
 use Rattle.std.proofs.lemmas.Nat.Bits.{and_high_mask}
+use Rattle.std.proofs.lemmas.Bool.{lt-ltb}
 use Rattle.spec_base.specs.Word.{wrap, plus_int, byte_of}
 use Rattle.spec_base.specs.Layout.{helpers_start, list_start, copies_start, range_start, range_end}
 use Rattle.spec_base.specs.declared.layout.Layout.{Layout}
@@ -34,7 +35,6 @@ use Rattle.rows_access.proofs.CheckWords.{Checks, check-words, turned, turned_ba
 use Rattle.rows_access.proofs.AccessPlaces.{store-width, and_255, entry-offset, entry-at, entry-from, slot-bytes, copied-place, entry-most, InCopies, in-copies, place-from}
 use Rattle.rows_access.proofs.Lists.{elsewhere, there, ok-listed, ok-count, ok-entry}
 use Rattle.rows_access.proofs.Copies.{patch-outside, viewed-outside, viewed-new, viewed-entry, taken, has-more, viewed-stored}
-use Rattle.std.proofs.lemmas.Bool.{lt-ltb}
 
 -- the jump from a store's block to its helper
 to_helper : (op : StoreOp) → even (plus_int (high_part (helpers_start + store_helper op)) (lo (helpers_start + store_helper op))) ≡ helpers_start + offset_of (Storing (store_size op)) + 4 * 0

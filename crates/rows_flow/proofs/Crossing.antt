@@ -15,7 +15,7 @@ use Rattle.run_model.specs.Run.{World, Run, Answer, rewritten_words}
 use Rattle.run_model.specs.ShadowMoves.{shadow_step, shadow_after, fetch_shadow, shadow_plan, fill, hint_given}
 use Rattle.side_model.specs.Hart.{Regs, get, Priv}
 use Rattle.code_model.specs.Tables.{Tabs, TableOk}
-use Rattle.side_model.specs.Tables.{HasTabs, Unchanged}
+use Rattle.side_model.specs.Tables.{HasTabs, IsUnchanged}
 use Rattle.side_model.specs.Places.{Place, InBlock, code, address}
 use Rattle.side_model.specs.Words.{Point}
 use Rattle.side_model.specs.Sees.{Shade, shade_of, Sees, Landed, goes_on}
@@ -58,8 +58,8 @@ module _ (w : World) (x : Answer) (p : ℕ) (i : Instr) (q : Regs) (base target 
   -- where the run lands, by the rows of the block at a base
   abbrev lands : ℕ → (Place → Regs → Priv → Tabs → ℕ → Type 0) → Shade → Type 0
   lands at rows h =
-      Landed l at (λ place rs s' t' m' k. rows place rs s' t' k × Unchanged s.tabs r.shared t' m') (λ to rs t' m'. FlowArrives l p i q to rs × Unchanged s.tabs r.shared t' m')
-      (λ cause t' m'. FlowFaults l p i q cause × Unchanged s.tabs r.shared t' m') n h
+      Landed l at (λ place rs s' t' m' k. rows place rs s' t' k × IsUnchanged s.tabs r.shared t' m') (λ to rs t' m'. FlowArrives l p i q to rs × IsUnchanged s.tabs r.shared t' m')
+      (λ cause t' m'. FlowFaults l p i q cause × IsUnchanged s.tabs r.shared t' m') n h
 
   -- in this block, or at the pad of the target's
   pub crossing-lands : TableOk l s.tabs

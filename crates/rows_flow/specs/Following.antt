@@ -18,7 +18,7 @@ use Rattle.side_model.specs.Places.{Place}
 use Rattle.side_model.specs.Words.{Out}
 use Rattle.side_model.specs.Rows.{Led}
 use Rattle.side_model.specs.Sees.{HasRegs}
-use Rattle.side_model.specs.Tables.{Unchanged}
+use Rattle.side_model.specs.Tables.{IsUnchanged}
 
 -- ---- what an instruction does
 
@@ -61,5 +61,5 @@ pub record FlowFaults (l : Layout) (p : ℕ) (i : Instr) (q : Regs) (cause : Par
 -- a word with n words left leads to a row of the block, to an arrival or to a park, and leaves the tables t and the memory m
 abbrev pub Follows : Layout → Memory → ℕ → Instr → Regs → ℕ → (Place → Regs → Priv → Tabs → ℕ → Type 0) → Tabs → Memory → ℕ → Out → Type 0
 Follows l program p i q base Row t m n =
-    Led l program base (λ place rs s t' m' k. Row place rs s t' k × Unchanged t m t' m') (λ target rs t' m'. FlowArrives l p i q target rs × Unchanged t m t' m')
-    (λ cause t' m'. FlowFaults l p i q cause × Unchanged t m t' m') n
+    Led l program base (λ place rs s t' m' k. Row place rs s t' k × IsUnchanged t m t' m') (λ target rs t' m'. FlowArrives l p i q target rs × IsUnchanged t m t' m')
+    (λ cause t' m'. FlowFaults l p i q cause × IsUnchanged t m t' m') n

@@ -23,8 +23,8 @@ use Rattle.side_model.specs.Places.{Place, InBlock, code, IsInstruction}
 use Rattle.side_model.specs.Words.{exec_some}
 use Rattle.side_model.specs.Rows.{Led}
 use Rattle.side_model.specs.JumpRows.{high_part}
+use Rattle.side_model.specs.Tables.{IsUnchanged}
 use Rattle.rows_flow.specs.Following.{Follows}
-use Rattle.side_model.specs.Tables.{Unchanged}
 
 -- ---- instructions that only compute: two words
 
@@ -131,6 +131,6 @@ abbrev pub GuardLeads : Type 0
 GuardLeads =
     (l : Layout) (q : Regs) (program : Memory)
     → (n : ℕ) (place : Place) (rs : Regs) (s : Priv) (t : Tabs) (m : Memory) → TableOk l t → ParkRow q place rs s t n
-    → Led l program (block_at l l.text_end) (λ place rs s t' m' k. ParkRow q place rs s t' k × Unchanged t m t' m') (λ target rs t' m'. ⊥)
-    (λ cause t' m'. GuardFaults l cause × Unchanged t m t' m') n
+    → Led l program (block_at l l.text_end) (λ place rs s t' m' k. ParkRow q place rs s t' k × IsUnchanged t m t' m') (λ target rs t' m'. ⊥)
+    (λ cause t' m'. GuardFaults l cause × IsUnchanged t m t' m') n
     (exec_some (block_at l l.text_end) (code l guard_block place) (record { place = place; regs = rs; priv = s; tabs = t }) m)

@@ -3,6 +3,7 @@ use Rattle.std.proofs.Common.{◌≡◌, ◌≢◌, ℕ, zero, suc, ◌+◌, ◌
 use Rattle.std.specs.Prelude.{⊤, unwrap_or}
 use Rattle.std.proofs.lemmas.Bool.Decides.{nat_tests}
 use Rattle.std.proofs.lemmas.List.{length-take}
+use Rattle.std.proofs.lemmas.Bool.{and_parts}
 use Rattle.spec_base.specs.Layout.{is_lawful}
 use Rattle.spec_base.specs.declared.layout.Layout.{Layout}
 use Rattle.spec_base.specs.declared.spot.ReadSpot.{ReadSpot}
@@ -20,7 +21,6 @@ use Rattle.rows_log.specs.Fills.{seen, bytes_set, IsFilled, FillsKeepTables}
 use Rattle.rows_log.proofs.PlannedReads.{read-planned, all_from-last, data-region}
 use Rattle.rows_log.proofs.FillTables.{slotted, ok-slotted, has-slotted, bytes-keep}
 use Rattle.rows_log.proofs.FillViews.{written-none, written-alike, view-slotted, view-bytes}
-use Rattle.std.proofs.lemmas.Bool.{and_parts}
 
 module _ (l : Layout) (few : l.regions ≤ 65536) where
   -- ---- regions get slots in order

@@ -17,11 +17,11 @@ use Rattle.code_model.specs.Blocks.{block, guard_block, with_pad, jal_if, taken_
 use Rattle.run_model.specs.Run.{World, Run, Answer}
 use Rattle.run_model.specs.ShadowMoves.{shadow_in, shadow_after, shadow_stores, shadow_plan, fetch_shadow}
 use Rattle.side_model.specs.Places.{Helper, Loading, Storing, Jumping, LoadTail, StoreTail, Appending, Restarting, Faulting, FullUp, LogFullUp, W1, W2, W4, W8, helper_words}
+use Rattle.side_model.specs.Sees.{Shade}
 use Rattle.rows_log.specs.Queue.{LeavesLink}
 use Rattle.rows_log.specs.LinkWords.{stores_out, NoneStores, is_store, has_stores, BlocksStoreNot, GuardStoresNot, HelpersStoreNot, WordsLeaveLink}
 use Rattle.rows_log.proofs.CallsLeave.{calls-leave_link}
 use Rattle.side_model.proofs.Stepping.{shade-step}
-use Rattle.side_model.specs.Sees.{Shade}
 
 -- ---- words
 

@@ -8,8 +8,8 @@ use Rattle.program_model.specs.Cache.{in_flight}
 use Rattle.run_model.specs.Run.{World, Run, RunEnd, rewritten_text}
 use Rattle.run_model.specs.OwnMoves.{program_at, own_in, own_unless}
 use Rattle.run_model.specs.Moves.{step_unless, begun}
-use Rattle.rows_log.specs.OtherMoves.{ProgramLeavesShared, FetchLeavesShared}
 use Rattle.own_laws.proofs.OwnSteps.{program_at-by, fetch_of-by}
+use Rattle.rows_log.specs.OtherMoves.{ProgramLeavesShared, FetchLeavesShared}
 
 -- ---- the program
 

@@ -12,13 +12,13 @@ use Rattle.rv_model.specs.Memory.{Memory, all_from}
 use Rattle.rv_model.specs.Registers.{reg}
 use Rattle.rv_model.specs.Arithmetic.{signed}
 use Rattle.rv_model.specs.Rights.{is_data}
+use Rattle.rv_model.proofs.DataLemmas.{all_from-at}
 use Rattle.program_model.specs.Descriptors.{Descriptor, Free, Null, Out, Err, File, Descriptors, slot, with_slot, lowest_free, EINVAL}
 use Rattle.program_model.specs.Calls.{CallPlan, Set, Look, Read, Write, Exit, CallKind, Open, OpenAt, Close, Seek, ReadFile, WriteFile, ExitProgram, Break, Unknown, kind_of, Named, Refused, Whole, name_at, look_if_free, open_named, open_plan, close_plan, seek_base, moved_to, seek_from, seek_plan, read_count, read_if, read_plan, put_if, write_plan, break_plan, plan_by}
 use Rattle.code_model.specs.Regions.{shadowed}
 use Rattle.run_model.specs.Run.{World, Run}
 use Rattle.run_model.specs.ShadowMoves.{shadow_plan}
 use Rattle.code_model.specs.Tables.{all_regions}
-use Rattle.rv_model.proofs.DataLemmas.{all_from-at}
 
 -- ---- a read's bytes are data
 

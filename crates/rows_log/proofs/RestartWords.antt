@@ -1,6 +1,7 @@
 -- Each word of RESTART leads to its next row, to the block behind the site, or to a park.
 use Rattle.std.proofs.Common.{◌≡◌, ◌≢◌, ℕ, zero, suc, ◌+◌, ◌-◌, ◌*◌, ◌%◌, ◌<◌, ◌≤◌, ◌⊎◌, inl, inr, Bool, true, false, ◌==◌, pos, List, ◌++◌, take, drop, slice_get, Option, Some, refl, ◌∙◌, ap, ap₂, sym, subst, arith, nat_lt, nat_le, lit<}
 use Rattle.std.proofs.lemmas.Bool.Decides.{nat_tests}
+use Rattle.std.proofs.lemmas.Bool.{lt-ltb}
 use Rattle.spec_base.specs.Word.{wrap, plus_int}
 use Rattle.spec_base.specs.Layout.{table_start, list_start}
 use Rattle.spec_base.specs.declared.layout.Layout.{Layout}
@@ -17,7 +18,8 @@ use Rattle.code_model.specs.Log.{box_start, boxed}
 use Rattle.code_model.specs.Regions.{entry_address, listed_address}
 use Rattle.side_model.specs.Hart.{Regs, get, put, Priv}
 use Rattle.code_model.specs.Tables.{Tabs, TableOk, all_regions}
-use Rattle.side_model.specs.Tables.{with_value, Unchanged}
+use Rattle.own_laws.proofs.StubWords.{slice_get-append}
+use Rattle.side_model.specs.Tables.{with_value, IsUnchanged}
 use Rattle.side_model.specs.Places.{Restarting, Jumping, Place, InHelper, code, helper_words, IsInstruction}
 use Rattle.side_model.specs.Words.{Point, Out, Goes, Loads, Stores, Keys, Calls, Parks, Fails, exec_some}
 use Rattle.side_model.specs.Rows.{Led, on, leaps, arrives, takes_count, takes_listed, takes_link, puts_entry, puts_count, calls, parks}
@@ -28,8 +30,6 @@ use Rattle.side_model.proofs.Tabling.{all_regions-most}
 use Rattle.side_model.proofs.JumpWords.{forks, jump_leads}
 use Rattle.rows_log.specs.Queue.{LeavesLink}
 use Rattle.rows_log.specs.RestartRows.{is_hcall, HasBox, AreLoaded, IsAnswered, with_four, Cleared, AllCleared, IsFresh, saved, RestartRow, r1, r2, r3, r4, r5, r6, r7, r8, r9, r10, r11, r12, r13, r14, r15, r16, r17, r18-47, r48, r49, r50, RestartedRow, RestartNext, word, call, RestartArrives, RestartFaults, RestartStarts, RestartLeads, BoxStays, RestartedLeads}
-use Rattle.std.proofs.lemmas.Bool.{lt-ltb}
-use Rattle.own_laws.proofs.StubWords.{slice_get-append}
 
 -- ---- registers
 
@@ -73,8 +73,8 @@ leaves-stored m a n v h x k = grind (arith, nat_tests)
 
 -- words that are known to leave tables and memory
 abbrev Quiet : Tabs → Memory → Out → Type 0
-Quiet t m (Goes s m') = Unchanged t m s.tabs m'
-Quiet t m (Parks cause s m') = Unchanged t m s.tabs m'
+Quiet t m (Goes s m') = IsUnchanged t m s.tabs m'
+Quiet t m (Parks cause s m') = IsUnchanged t m s.tabs m'
 Quiet t m (Loads op rd a s m') = ⊥
 Quiet t m (Stores op a v s m') = ⊥
 Quiet t m (Keys rd s m') = ⊥
@@ -84,9 +84,9 @@ Quiet t m Fails = ⊥
 -- where they lead by one family, they lead by another
 module _ (l : Layout) (program : Memory) (base : ℕ) (Row Row' : Place → Regs → Priv → Tabs → Memory → ℕ → Type 0) (Arrives Arrives' : ℕ → Regs → Tabs → Memory → Type 0)
     (Why Why' : Park → Tabs → Memory → Type 0) (n : ℕ) (t : Tabs) (m : Memory)
-    (rows : (place : Place) (rs : Regs) (s : Priv) (t' : Tabs) (m' : Memory) (k : ℕ) → Row place rs s t' m' k → Unchanged t m t' m' → Row' place rs s t' m' k)
-    (arrivals : (p : ℕ) (rs : Regs) (t' : Tabs) (m' : Memory) → Arrives p rs t' m' → Unchanged t m t' m' → Arrives' p rs t' m')
-    (causes : (cause : Park) (t' : Tabs) (m' : Memory) → Why cause t' m' → Unchanged t m t' m' → Why' cause t' m') where
+    (rows : (place : Place) (rs : Regs) (s : Priv) (t' : Tabs) (m' : Memory) (k : ℕ) → Row place rs s t' m' k → IsUnchanged t m t' m' → Row' place rs s t' m' k)
+    (arrivals : (p : ℕ) (rs : Regs) (t' : Tabs) (m' : Memory) → Arrives p rs t' m' → IsUnchanged t m t' m' → Arrives' p rs t' m')
+    (causes : (cause : Park) (t' : Tabs) (m' : Memory) → Why cause t' m' → IsUnchanged t m t' m' → Why' cause t' m') where
   led-quiet : (o : Out) → Quiet t m o → Led l program base Row Arrives Why n o → Led l program base Row' Arrives' Why' n o
   led-quiet _ e (on r ok less inner) = on (rows _ _ _ _ _ _ r e) ok less inner
   led-quiet _ e (leaps place a d) = leaps place a (led-quiet _ e d)
@@ -291,7 +291,7 @@ box_stays m m' site q f b = record { holds = loaded-kept m m' box_start (box_sta
 
 module _ (l : Layout) (site : ℕ) (q : Regs) (base : ℕ) (words : List Instr) (program : Memory) (is : IsInstruction l site) (fits : JumpFits l (site + 4) q base words) where
   abbrev restarted : Tabs → Memory → Place → Regs → Priv → Tabs → Memory → ℕ → Type 0
-  restarted t m place rs s t' m' k = RestartedRow l site q place rs s t' k × Unchanged t m t' m'
+  restarted t m place rs s t' m' k = RestartedRow l site q place rs s t' k × IsUnchanged t m t' m'
 
   abbrev goes : ℕ → Place → Regs → Priv → Tabs → Memory → Type 0
   goes n place rs s t m =
@@ -301,7 +301,7 @@ module _ (l : Layout) (site : ℕ) (q : Regs) (base : ℕ) (words : List Instr) 
   fitting : TextFits l
   fitting = text-fits l is.lawful
 
-  unchanged : {t : Tabs} {m : Memory} → Unchanged t m t m
+  unchanged : {t : Tabs} {m : Memory} → IsUnchanged t m t m
   unchanged = record { tables = refl; memory = refl }
 
   -- a word of JUMP leaves tables and memory

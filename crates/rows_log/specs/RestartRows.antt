@@ -15,8 +15,8 @@ use Rattle.side_model.specs.Places.{Restarting, Place, InHelper, code, IsInstruc
 use Rattle.side_model.specs.Words.{exec_some}
 use Rattle.side_model.specs.Rows.{Led}
 use Rattle.side_model.specs.JumpRows.{high_part, with_31, JumpRow, JumpFits}
+use Rattle.side_model.specs.Tables.{IsUnchanged}
 use Rattle.rows_log.specs.Queue.{LeavesLink}
-use Rattle.side_model.specs.Tables.{Unchanged}
 
 -- ---- the box, and the registers that come from it
 
@@ -125,13 +125,13 @@ pub record RestartArrives (l : Layout) (site : ℕ) (q : Regs) (t : Tabs) (m : M
   pub behind : target ≡ site + 4
   pub inside : target < l.text_end
   pub registers : rs ≡ q
-  pub same : Unchanged t m t' m'
+  pub same : IsUnchanged t m t' m'
 
 -- it parks where the site is the last instruction of the text
 pub record RestartFaults (l : Layout) (site : ℕ) (t : Tabs) (m : Memory) (cause : Park) (t' : Tabs) (m' : Memory) : Type 0 where
   pub fault : cause ≡ park.Fault
   pub last : site + 4 ≡ l.text_end
-  pub same : Unchanged t m t' m'
+  pub same : IsUnchanged t m t' m'
 
 -- ---- statements
 
@@ -156,5 +156,5 @@ abbrev pub RestartedLeads : Type 0
 RestartedLeads =
     (l : Layout) (site : ℕ) (q : Regs) (base : ℕ) (words : List Instr) (program : Memory) → IsInstruction l site → JumpFits l (site + 4) q base words
     → (n : ℕ) (place : Place) (rs : Regs) (s : Priv) (t : Tabs) (m : Memory) → TableOk l t → RestartedRow l site q place rs s t n
-    → Led l program base (λ place rs s t' m' k. RestartedRow l site q place rs s t' k × Unchanged t m t' m') (RestartArrives l site q t m) (RestartFaults l site t m) n
+    → Led l program base (λ place rs s t' m' k. RestartedRow l site q place rs s t' k × IsUnchanged t m t' m') (RestartArrives l site q t m) (RestartFaults l site t m) n
     (exec_some base (code l words place) (record { place = place; regs = rs; priv = s; tabs = t }) m)

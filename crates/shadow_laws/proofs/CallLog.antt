@@ -40,6 +40,7 @@ use Rattle.run_laws.specs.LogLaws as law
 use Rattle.own_laws.proofs.InvisibleShadow.{effect-no_call, NoCall, shadow_move-keeps, shadow_view}
 use Rattle.own_laws.proofs.Reached.{none_some, false_true}
 use Rattle.own_laws.proofs.Side.{Kept}
+use Rattle.own_laws.proofs.MoveLists.{run_from-snoc, run_from-append}
 use Rattle.side_model.specs.Hart.{Regs, get, put, Priv}
 use Rattle.code_model.specs.Tables.{Tabs}
 use Rattle.side_model.specs.Places.{Place, InBlock, InHelper, Away, Appending, address, code, HasBlock, IsInstruction}
@@ -63,7 +64,6 @@ use Rattle.shadow_laws.proofs.ShadowRuns.{HasTables, has-tables, run-keeps, call
 use Rattle.shadow_laws.proofs.Sound.{At, stopped_running, never_running, parked_running}
 use Rattle.shadow_laws.proofs.SoundSteps.{landed, next, stays-at}
 use Rattle.shadow_laws.proofs.TextBlocks.{InText, at-address, text}
-use Rattle.own_laws.proofs.MoveLists.{run_from-snoc, run_from-append}
 
 -- ---- the key of a call
 

@@ -19,6 +19,7 @@ use Rattle.run_model.specs.Run.{World, Run, Answer, rewritten_words}
 use Rattle.run_model.specs.ShadowMoves.{shadow_step, shadow_after, shadow_stores, fetch_shadow}
 use Rattle.run_laws.specs.OwnLaws.{Accepted}
 use Rattle.own_laws.proofs.Reached.{false_true, none_some}
+use Rattle.own_laws.proofs.InvisibleShadow.{shadow_effect}
 use Rattle.side_model.specs.Hart.{Regs, Priv}
 use Rattle.code_model.specs.Tables.{Tabs}
 use Rattle.side_model.specs.Places.{Place, Jumping, Faulting, address, code, IsInstruction}
@@ -28,6 +29,7 @@ use Rattle.side_model.specs.Sees.{Shade, shade_of, Landed, goes_on, arrived, par
 use Rattle.side_model.specs.JumpRows.{JumpRow, j1, j2, j3, j4, j5, j6, j7, j8, j9, j10, j11, j12, j13, j14, j15, j16, lands, faults, JumpFits}
 use Rattle.side_model.proofs.Fetching.{Fetches, code-fetches}
 use Rattle.side_model.proofs.JumpWords.{jump_leads}
+use Rattle.side_model.proofs.Stepping.{shade-step}
 use Rattle.rows_access.proofs.LoadWords.{load_leads}
 use Rattle.rows_access.proofs.StoreWords.{store_leads}
 use Rattle.rows_access.proofs.StoreChanges.{store_keeps}
@@ -44,8 +46,6 @@ use Rattle.rows_log.proofs.RestartWords.{restart_leads, restarted_leads}
 use Rattle.shadow_laws.proofs.ShadowNumbers.{Sized, stock_of}
 use Rattle.shadow_laws.proofs.Sound.{CallRows, bare, PadAt, at_pad, unknown, At, Sound, computing, quartering, branching, linking, going, jumping, padded, parking, guarded, loading, storing, calling, restarting, unboxing, parked_running}
 use Rattle.shadow_laws.proofs.SoundSteps.{landed, pad-leads}
-use Rattle.side_model.proofs.Stepping.{shade-step}
-use Rattle.own_laws.proofs.InvisibleShadow.{shadow_effect}
 
 -- ---- words that aren't stores
 

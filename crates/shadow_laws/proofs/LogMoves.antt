@@ -15,6 +15,7 @@ use Rattle.run_laws.specs.StubLaws.{Appends, IsEmpty, RestartsFromBox, TakesOlde
 use Rattle.own_laws.proofs.Bounds.{Words}
 use Rattle.own_laws.proofs.LogChanges.{Appends-same}
 use Rattle.side_model.specs.Sees.{Shade, shade_of}
+use Rattle.side_model.specs.Places.{IsInstruction}
 use Rattle.rows_log.specs.Queue.{Takes}
 use Rattle.rows_log.proofs.QueueLaws.{head-takes, taking-keeps}
 use Rattle.shadow_laws.proofs.LoggedSteps.{logged_calls, LeavesBox, Appending, logged-appends, logged-steps, logged-stays}
@@ -23,7 +24,6 @@ use Rattle.shadow_laws.proofs.ShadowNumbers.{Sized, stock_of}
 use Rattle.shadow_laws.proofs.ShadowRuns.{HasTables, restart-sound, resting-stays}
 use Rattle.shadow_laws.proofs.Sound.{Sound, Lands, goes, reaches, stopped_running, never_running, parked_running}
 use Rattle.shadow_laws.proofs.Sound as landing
-use Rattle.side_model.specs.Places.{IsInstruction}
 
 -- a running shadow stands at a row, its calls with their keys, and the log is a queue unless the shadow is stopped; k moves are made
 pub record Logged (w : World) (h : Shade) (k : ℕ) : Type 0 where

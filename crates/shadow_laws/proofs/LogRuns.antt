@@ -32,13 +32,13 @@ use Rattle.own_laws.proofs.StubWords.{stub_side}
 use Rattle.own_laws.proofs.StubRows.{WordGoes, to_row, to_restarted, to_call, word_goes}
 use Rattle.own_laws.proofs.Bounds.{Words}
 use Rattle.side_model.specs.Sees.{Shade, shade_of}
+use Rattle.side_model.specs.Places.{IsInstruction}
 use Rattle.run_laws.specs.LogLaws.{ShadowAppends, StaysInStub, LogIsKept}
 use Rattle.shadow_laws.proofs.LogMoves.{Grows, Grows-same, Logged, ShadowMoved, one-more, shadow-moves, same-logged, own-logged, tail-small}
 use Rattle.shadow_laws.proofs.OwnShades.{Watched, watched_of, OwnShade, same, links, halts, begins, own-shade, fetch-shade, program_at-shade}
 use Rattle.shadow_laws.proofs.ShadowNumbers.{Sized, stock_of, run-sized}
 use Rattle.shadow_laws.proofs.ShadowRuns.{has-tables, run-keeps, gate-site, zeros-loaded}
 use Rattle.shadow_laws.proofs.Sound.{never_running}
-use Rattle.side_model.specs.Places.{IsInstruction}
 use Rattle.own_laws.proofs.OwnSteps.{own_call-by, fetch_of-by}
 use Rattle.own_laws.proofs.MoveLists.{run_from-snoc}
 

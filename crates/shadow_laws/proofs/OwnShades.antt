@@ -18,14 +18,14 @@ use Rattle.rv_model.specs.Rights.{stub_rights, in_private, in_link}
 use Rattle.rv_model.specs.Arithmetic.{is_taken, store_width}
 use Rattle.rv_model.specs.Effect.{Effect, Next, Stored, Trapped, Called, Gated, effect, jump_if, branch_if, load_if, store_if}
 use Rattle.rv_model.specs.Space.{stub_sees}
+use Rattle.rv_model.proofs.DataLemmas.{all_from-inside}
 use Rattle.code_model.specs.Places.{RESTART}
 use Rattle.code_model.specs.Regions.{slots_in_use}
 use Rattle.run_model.specs.Run.{World, Run, Answer}
 use Rattle.run_model.specs.OwnMoves.{program_at, own_step}
 use Rattle.run_model.specs.Moves.{fetch_of}
-use Rattle.side_model.specs.Sees.{Shade, shade_of}
-use Rattle.rv_model.proofs.DataLemmas.{all_from-inside}
 use Rattle.own_laws.proofs.OwnSteps.{program_at-by, own_step-by, fetch_of-by}
+use Rattle.side_model.specs.Sees.{Shade, shade_of}
 
 -- the shadow's part of a run, with what is counted of it since the restart
 pub record Watched : Type 0 where

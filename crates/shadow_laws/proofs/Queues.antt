@@ -14,9 +14,9 @@ use Rattle.run_laws.specs.StubLaws.{IsEmpty}
 use Rattle.run_laws.specs.LogLaws.{IsEmptying, LogIsQueue, EmptyingLeavesTail}
 use Rattle.own_laws.proofs.Held.{Level, free, halted, headless, emptied, boxing, level, Held, IsFree, IsHalted, IsHeadless, level-headless}
 use Rattle.own_laws.proofs.HeldRuns.{Place, place_of, HeldAt, OwnWord, at_place, at_free, at_words, at_restart, free-runs, word-runs, run-held, own-words, fetch-places, stopped-place}
+use Rattle.own_laws.proofs.MoveLists.{run_from-snoc}
 use Rattle.shadow_laws.proofs.LogRuns.{run-inv}
 use Rattle.shadow_laws.proofs.Sound.{stopped_running}
-use Rattle.own_laws.proofs.MoveLists.{run_from-snoc}
 
 -- a queue, but between words 30 and 31
 abbrev Queued : Run → Type 0

@@ -11,6 +11,7 @@ use Rattle.rv_decode.specs.declared.instr.Instr.TheVariants.{Jal, Jalr}
 use Rattle.rv_decode.specs.declared.instr.Instr.TheVariants.{Ecall}
 use Rattle.rv_model.specs.Memory.{Memory, zeros, stored, patched, loaded}
 use Rattle.rv_model.specs.Space.{program_byte}
+use Rattle.rv_model.specs.Effect.{even}
 use Rattle.rv_model.proofs.Results.{wrap-small}
 use Rattle.code_model.specs.Assembly.{X31, ld}
 use Rattle.code_model.specs.Blocks.{block, is_target}
@@ -49,7 +50,6 @@ use Rattle.rows_log.proofs.RestartWords.{restart_leads, restarted_leads, box_sta
 use Rattle.shadow_laws.proofs.ShadowNumbers.{Sized, stock_of, shadow_key-small}
 use Rattle.shadow_laws.proofs.Sound.{CallRows, Starts, bare, PadAt, at_pad, unknown, At, Sound, computing, quartering, branching, linking, going, jumping, padded, parking, guarded, loading, storing, calling, restarting, unboxing, Lands, goes, reaches, halts, is_helper, jump-place, helper-address, pad-target, Target, target-of, target-block, begins}
 use Rattle.shadow_laws.proofs.TextBlocks.{InText, at-address, text}
-use Rattle.rv_model.specs.Effect.{even}
 
 -- ---- other bytes are shared
 
@@ -96,14 +96,14 @@ stays-at {w} {h = h} {m} leaves at row =
 -- ---- a word that leads to another block
 
 -- the shadow stands at word 0 of the block of an address
-pub record Crossed (w : World) (target : ℕ) (s : Point) (m : Memory) (h : Shade) : Type 0 where
+pub record HasCrossed (w : World) (target : ℕ) (s : Point) (m : Memory) (h : Shade) : Type 0 where
   pub has_block : HasBlock w.image.layout target
   pub word : Instr
   pub is : InText w target word
   pub shown : Sees w.image.layout (block_at w.image.layout target) h (record s { place = InBlock 0 }) m
 
 -- where a row says so, it is at that row
-pub crossed-at : {w : World} {target : ℕ} {s : Point} {m : Memory} {h : Shade} {k : ℕ} → TableOk w.image.layout s.tabs → (c : Crossed w target s m h)
+pub crossed-at : {w : World} {target : ℕ} {s : Point} {m : Memory} {h : Shade} {k : ℕ} → TableOk w.image.layout s.tabs → (c : HasCrossed w target s m h)
     → (Row : Place → Regs → Priv → Tabs → Memory → ℕ → Type 0) → Row (InBlock 0) s.regs s.priv s.tabs h.shared k → At w (block_at w.image.layout target) (block w.image.layout target c.word) Row h k
 crossed-at {s = s} ok c Row row =
     record {
@@ -121,7 +121,7 @@ module _ (w : World) (a : Accepted w) where
   -- word 5 of jal leads to the pad of its target's block
   pub crossed-to : (x : Answer) (r : Run) (p rd : ℕ) (imm : ℤ) {n : ℕ} {Row : Place → Regs → Priv → Tabs → Memory → ℕ → Type 0} (at : At w (block_at l p) (block l p (Jal rd imm)) Row (shade_of r) n) (register : ℕ) (offset : ℤ)
       → code l (block l p (Jal rd imm)) at.point.place ≡ Some (Jalr 0 register offset) → even (plus_int (get register at.point.regs) offset) ≡ block_at l (plus_int p imm) → is_target l (plus_int p imm) ≡ true
-      → Crossed w (plus_int p imm) at.point r.shared (shade_of (shadow_step w x r))
+      → HasCrossed w (plus_int p imm) at.point r.shared (shade_of (shadow_step w x r))
   crossed-to x r p rd imm at register offset e to inside =
       let target : ℕ = plus_int p imm in
       let b : HasBlock l target = target-block w a target inside in
@@ -200,7 +200,7 @@ module _ (w : World) (a : Accepted w) where
           → Lands w C n after
       crossed p rd imm q n is at (stays d) = settles (λ s k row v ok. linking p rd imm q is (next at s v ok row.0)) (landed at d)
       crossed p rd imm q n is at (crosses k register offset e to row less) =
-          let c : Crossed w (plus_int p imm) at.point r.shared after = crossed-to x r p rd imm at register offset e to (pad-target row) in
+          let c : HasCrossed w (plus_int p imm) at.point r.shared after = crossed-to x r p rd imm at register offset e to (pad-target row) in
           goes k (grind (arith, nat_tests, less)) (padded (plus_int p imm) (block l (plus_int p imm) c.word) c.has_block refl (crossed-at at.ok c (bare PadAt) (at_pad at.point.regs at.point.priv)))
 
       -- each word leads on

@@ -16,6 +16,7 @@ use Rattle.side_model.specs.Words.{Point}
 use Rattle.side_model.specs.Sees.{Shade, shade_of, Sees, Landed}
 use Rattle.side_model.specs.Sees as landing
 use Rattle.side_model.specs.JumpRows.{JumpFits}
+use Rattle.side_model.specs.Tables.{IsUnchanged}
 use Rattle.rows_log.specs.RestartRows.{RestartedRow, RestartArrives, RestartFaults}
 use Rattle.rows_log.proofs.RestartWords.{restarted_leads}
 use Rattle.shadow_laws.proofs.ShadowNumbers.{Sized, stock_of}
@@ -25,7 +26,6 @@ use Rattle.shadow_laws.proofs.SoundSteps.{landed}
 use Rattle.hint_laws.proofs.Within.{ends}
 use Rattle.hint_laws.proofs.WithinSteps.{Inner, in_helper, at_pad, restarted-place}
 use Rattle.hint_laws.proofs.Spots.{inner-arrival}
-use Rattle.side_model.specs.Tables.{Unchanged}
 
 -- the shadow is at such a word, with the program's registers behind the site
 pub record OnReturn (w : World) (site : ℕ) (g : Regs) (y : Run) : Type 0 where
@@ -63,7 +63,7 @@ module _ (w : World) (a : Accepted w) (x : Answer) (y : Run) (z : Sized (stock_o
       by_landed (landed w a x y z on.at
       (restarted_leads l site g on.base on.words (program_byte l (rewritten_words w) y.own.memory) on.is_site on.fits on.left on.at.point.place on.at.point.regs on.at.point.priv on.at.point.tabs y.shared on.at.ok on.at.row))
     where
-      by_landed : Landed l on.base (λ place rs s t m k. RestartedRow l site g place rs s t k × Unchanged on.at.point.tabs y.shared t m) (RestartArrives l site g on.at.point.tabs y.shared) (RestartFaults l site on.at.point.tabs y.shared) on.left (shade_of next)
+      by_landed : Landed l on.base (λ place rs s t m k. RestartedRow l site g place rs s t k × IsUnchanged on.at.point.tabs y.shared t m) (RestartArrives l site g on.at.point.tabs y.shared) (RestartFaults l site on.at.point.tabs y.shared) on.left (shade_of next)
           → Returned w site g next
       by_landed (landing.goes_on k s m row ok less inner v) =
           still (off-block s (restarted-place row.0) v.pc)

@@ -20,9 +20,11 @@ use Rattle.run_laws.specs.OwnLaws.{Accepted}
 use Rattle.run_model.specs.Restarts.{call_action}
 use Rattle.run_model.specs.Marks.{no_marks}
 use Rattle.code_model.specs.Tables.{Tabs, TableOk}
+use Rattle.own_laws.proofs.Stops.{fill-state}
 use Rattle.side_model.specs.Tables.{HasTabs}
 use Rattle.rows_log.specs.Fills.{IsFilled}
 use Rattle.rows_log.proofs.FilledReads.{fills-keep_tables}
+use Rattle.rows_log.proofs.FillViews.{written-alike}
 use Rattle.mark_laws.specs.Agreement.{Agrees, SeesAlike, HasAll, CallLeads, assumed_answer, assumed_memory, is_read}
 use Rattle.mark_laws.specs.Sizes.{TrueSizes}
 use Rattle.mark_laws.proofs.OneCall.{plan_agrees, call_agrees}
@@ -37,8 +39,6 @@ use Rattle.shadow_walk.specs.Restarts.{StandsAnswered}
 use Rattle.shadow_walk.specs.Performed.{fills, is_left, HasStateBut, Performs, goes_on, exits, fails, CallsArePerformed}
 use Rattle.shadow_walk.proofs.LogWords.{call-there}
 use Rattle.shadow_walk.proofs.OnTheWay.{call-unmarked, use-none}
-use Rattle.own_laws.proofs.Stops.{fill-state}
-use Rattle.rows_log.proofs.FillViews.{written-alike}
 
 -- ---- states
 

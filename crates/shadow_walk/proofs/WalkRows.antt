@@ -56,10 +56,10 @@ use Rattle.shadow_laws.proofs.AnyCalls as calls
 use Rattle.shadow_laws.proofs.AnyCalls.{AnyCallRow, any_call-leads, a3, b6}
 use Rattle.shadow_laws.proofs.ShadowNumbers.{Sized, stock_of, program-bytes}
 use Rattle.shadow_laws.proofs.Sound.{At, bare}
+use Rattle.shadow_laws.proofs.SoundWords.{led-completes, crossed-completes}
 use Rattle.hint_laws.proofs.Within.{Doing, does, ends, restarts, goes_to, AreSeen, known_from, BehindRow, behind, Within, computing, quartering, branching, linking, padding, going, jumping, parking, guarded, loading, storing, calling, answered, restarting, unboxing}
 use Rattle.hint_laws.proofs.WithinSteps.{known-loaded, behind-leads}
 use Rattle.hint_laws.proofs.Spots.{jump-some, restarted-some}
-use Rattle.shadow_laws.proofs.SoundWords.{led-completes, crossed-completes}
 
 -- ---- words that are left
 

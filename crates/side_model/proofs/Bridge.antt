@@ -29,6 +29,7 @@ use Rattle.run_model.specs.ShadowMoves.{shadow_after, shadow_at, shadow_stores, 
 use Rattle.rv_model.proofs.Results.{word_of_int-small}
 use Rattle.side_model.specs.Hart.{Regs, get, put, Priv, get_private, put_private, is_place}
 use Rattle.code_model.specs.Tables.{Tabs, TableOk, all_regions}
+use Rattle.own_laws.proofs.InvisibleShadow.{shadow_view}
 use Rattle.side_model.specs.Tables.{HasTabs, with_value}
 use Rattle.side_model.specs.Places.{Place, InBlock, InHelper, Away, address, next, is_inner, IsBase}
 use Rattle.side_model.specs.Words.{Point, Out, Goes, Loads, Stores, Keys, Calls, Parks, Fails, onward, wrote, jumped, branched, private_load, private_store, exec}
@@ -39,7 +40,6 @@ use Rattle.side_model.proofs.Private.{get_private-place, private-loads, HasPriv-
 use Rattle.side_model.proofs.Fetching.{offset-whole}
 use Rattle.side_model.proofs.Tabling.{HasTabs-below, HasTabs-above, HasTabs-entry, HasTabs-count, HasTabs-listed, all_regions-most}
 use Rattle.side_model.proofs.Views.{loads-private, loads-program, loads-shared, stores-private, stores-shared, entry_bytes, count_bytes, listed_bytes, link_byte, copy_byte, no_private_byte}
-use Rattle.own_laws.proofs.InvisibleShadow.{shadow_view}
 
 -- ---- places
 

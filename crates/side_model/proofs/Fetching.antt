@@ -13,8 +13,8 @@ use Rattle.code_model.specs.Helpers.{helpers}
 use Rattle.code_model.specs.Places.{block_at}
 use Rattle.run_model.specs.Run.{World}
 use Rattle.run_model.specs.ShadowMoves.{fetch_shadow, fetch_by}
-use Rattle.side_model.specs.Places.{W1, W2, W4, W8, Helper, Loading, Storing, Jumping, LoadTail, StoreTail, Appending, Restarting, Faulting, FullUp, LogFullUp, offset_of, helper_words, Place, InBlock, InHelper, Away, address, code, IsBase}
 use Rattle.own_laws.proofs.StubWords.{slice_get-append}
+use Rattle.side_model.specs.Places.{W1, W2, W4, W8, Helper, Loading, Storing, Jumping, LoadTail, StoreTail, Appending, Restarting, Faulting, FullUp, LogFullUp, offset_of, helper_words, Place, InBlock, InHelper, Away, address, code, IsBase}
 
 -- ---- helpers
 

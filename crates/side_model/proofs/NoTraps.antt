@@ -27,12 +27,12 @@ use Rattle.side_model.specs.Words.{Point, Out, Goes, Loads, Stores, Fails, onwar
 use Rattle.side_model.specs.Rows.{Led, takes_entry, takes_count, takes_listed, takes_link, takes_program, takes_copy, puts_entry, puts_count, puts_listed, puts_link, puts_copy}
 use Rattle.side_model.specs.Sees.{shade_of, Sees}
 use Rattle.run_laws.specs.Completes.{Completes, goes_on, stores, asks_key, asks_call, asks_park, WordCompletes}
+use Rattle.own_laws.proofs.InvisibleShadow.{shadow_view}
 use Rattle.side_model.proofs.Private.{get_private-place}
 use Rattle.side_model.proofs.Fetching.{CodeAt, code-fetches}
 use Rattle.side_model.proofs.Tabling.{all_regions-most}
 use Rattle.side_model.proofs.Views.{loads-private, loads-program, loads-shared, stores-private, stores-shared, entry_bytes, count_bytes, listed_bytes, link_byte, copy_byte}
 use Rattle.side_model.proofs.Bridge.{IsPrivate, place-private, aligned}
-use Rattle.own_laws.proofs.InvisibleShadow.{shadow_view}
 
 -- a jump to a multiple of 4 completes
 jump-completes : (rs : Registers) (target : ℕ) → target % 4 ≡ 0 → Completes (jumps_to rs target)

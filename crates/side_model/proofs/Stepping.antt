@@ -17,9 +17,9 @@ use Rattle.side_model.specs.Rows.{Led}
 use Rattle.side_model.specs.Sees.{Shade, shade_of, Sees, Landed}
 use Rattle.side_model.proofs.Fetching.{CodeAt, Fetches, code-fetches}
 use Rattle.side_model.proofs.Bridge.{word-lands}
-use Rattle.own_laws.proofs.InvisibleShadow.{shadow_effect}
 use Rattle.spec_base.specs.declared.note.ShadowState.{ShadowState}
 use Rattle.spec_base.specs.declared.note.ShadowState.TheVariants.{Running}
+use Rattle.own_laws.proofs.InvisibleShadow.{shadow_effect}
 
 -- an arrival counts, and so does a word, but the shadow's part is left
 shade-counted : (b : Bool) (r : Run) → shade_of (word_counted (arrived_if b r)) ≡ shade_of r

@@ -12,9 +12,9 @@ use Rattle.rv_model.specs.Rights.{in_private, in_range, in_shared, in_link, in_t
 use Rattle.rv_model.specs.Arithmetic.{load_width, extended}
 use Rattle.rv_model.specs.Effect.{Stored, load_effect, load_if, store_effect, store_if, steps_on}
 use Rattle.rv_model.specs.Space.{program_byte, shadow_sees}
+use Rattle.rv_model.proofs.DataLemmas.{all_from-holds}
 use Rattle.code_model.specs.Regions.{entry_address, listed_address}
 use Rattle.code_model.specs.Tables.{all_regions}
-use Rattle.rv_model.proofs.DataLemmas.{all_from-holds}
 
 -- the program range ends at or below the emitted code
 pub range-most : (v : Version) → range_end v ≤ 0x4000_0000

@@ -12,7 +12,7 @@ pub record HasTabs (l : Layout) (shared : Memory) (t : Tabs) : Type 0 where
   pub listed : (slot : ℕ) → slot < l.regions → loaded shared (listed_address slot) 4 ≡ t.listed slot
 
 -- a word that changes neither the tables nor the memory
-pub record Unchanged (t : Tabs) (m : Memory) (t' : Tabs) (m' : Memory) : Type 0 where
+pub record IsUnchanged (t : Tabs) (m : Memory) (t' : Tabs) (m' : Memory) : Type 0 where
   pub tables : t' ≡ t
   pub memory : m' ≡ m
 
