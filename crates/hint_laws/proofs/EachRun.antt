@@ -14,8 +14,9 @@ use Rattle.run_model.specs.Restarts.{from_restart}
 use Rattle.run_model.specs.Marks.{before_use}
 use Rattle.run_laws.specs.OwnLaws.{Accepted}
 use Rattle.run_laws.specs.HintLaws.{HintsAreReads, ShadowFollows, HintsUntilUse}
+use Rattle.own_laws.proofs.MoveLists.{run_from-snoc}
 use Rattle.shadow_laws.proofs.ShadowNumbers.{Sized, stock_of, run-sized}
-use Rattle.shadow_laws.proofs.ShadowRuns.{resting-stays, run-snoc}
+use Rattle.shadow_laws.proofs.ShadowRuns.{resting-stays}
 use Rattle.shadow_laws.proofs.Sound.{never_running, stopped_running, parked_running}
 use Rattle.mark_laws.specs.Sizes.{TrueSizes}
 use Rattle.mark_laws.proofs.Horizons.{use_is_after_horizon}
@@ -136,7 +137,7 @@ module _ (w : World) (a : Accepted w) where
   unfolding run_from
   moves-followed [] before r e k = k
   moves-followed (m ∷ ms) before r e k =
-      let one : run w (before ++ m ∷ []) ≡ step w r m = run-snoc w a (opened_run w) before m ∙ ap (λ (r : Run). step w r m) e in
+      let one : run w (before ++ m ∷ []) ≡ step w r m = run_from-snoc w (opened_run w) before m ∙ ap (λ (r : Run). step w r m) e in
       moves-followed ms (before ++ m ∷ []) (step w r m) one (subst (λ (r : Run). IsFollowed w (step w r m)) e (move-followed before m (subst (IsFollowed w) (sym e) k)))
 
   -- before the first restart nothing is to follow

@@ -1,20 +1,19 @@
 -- A shadow that follows its run goes on following it at each own move and at each fetch, and follows anew from a restart on.
-use Rattle.std.proofs.Common.{◌≡◌, ℕ, ◌+◌, ◌<◌, ◌≤◌, ◌⊎◌, inl, inr, Bool, ◌&&◌, List, [], ◌∷◌, ◌++◌, Option, Some, None, refl, ◌∙◌, ap, sym, subst, arith}
+use Rattle.std.proofs.Common.{◌≡◌, ℕ, ◌+◌, ◌<◌, ◌≤◌, ◌⊎◌, inl, inr, Bool, ◌&&◌, [], ◌∷◌, ◌++◌, Option, Some, None, refl, ◌∙◌, ap, sym, subst, arith}
 use Rattle.std.specs.Prelude.{IsTrue}
 use Rattle.std.specs.Option.{option_and_then}
 use Rattle.std.proofs.lemmas.Bool.Decides.{nat_tests}
 use Rattle.spec_base.specs.Word.{byte_of}
 use Rattle.spec_base.specs.Layout.{link_start}
 use Rattle.spec_base.specs.declared.note.Move.TheVariants.{O, D}
-use Rattle.spec_base.specs.declared.note.Note.{Note}
 use Rattle.spec_base.specs.declared.note.ShadowState.TheVariants.{Running, Stopped}
 use Rattle.spec_base.specs.declared.spot.BlockSpot.{BlockSpot}
 use Rattle.rv_model.specs.Memory.{Memory}
 use Rattle.program_model.specs.Cache.{in_flight}
 use Rattle.program_model.specs.PlainRun.{State, state_after, all_taken}
-use Rattle.run_model.specs.Run.{World, Run, RunEnd, Since, Answer, Usual, Took, Failed, Lost, opened_run}
+use Rattle.run_model.specs.Run.{World, Run, RunEnd, Since, Answer, opened_run}
 use Rattle.run_model.specs.OwnMoves.{stays_behind, counted, own_step}
-use Rattle.run_model.specs.Moves.{Moves, begun, silent, step, step_unless, run, landed_with, fetch_failed, fetch_ends, fetch_of}
+use Rattle.run_model.specs.Moves.{Moves, begun, silent, step, step_unless, run, fetch_of}
 use Rattle.run_laws.specs.OwnLaws.{Accepted, OwnIs}
 use Rattle.run_model.specs.Restarts.{from_restart}
 use Rattle.run_model.specs.Marks.{before_use}
@@ -27,7 +26,6 @@ use Rattle.side_model.specs.Sees.{Shade, shade_of}
 use Rattle.rows_access.proofs.Copies.{patch-outside}
 use Rattle.shadow_laws.proofs.AnyCalls.{LeavesTables}
 use Rattle.shadow_laws.proofs.OwnShades.{Watched, watched_of, OwnShade, same, links, halts, begins, own-shade, fetch-shade}
-use Rattle.shadow_laws.proofs.ShadowRuns.{run-snoc}
 use Rattle.shadow_laws.proofs.Sound.{stopped_running}
 use Rattle.shadow_laws.proofs.SoundSteps.{LeavesBehindHead}
 use Rattle.mark_laws.specs.Settled.{IsCovered}
@@ -40,6 +38,8 @@ use Rattle.hint_laws.proofs.Restarting.{begins-anew}
 use Rattle.hint_laws.proofs.Transport.{same-use}
 use Rattle.hint_laws.proofs.Halts.{stopped}
 use Rattle.hint_laws.proofs.Followed as followed
+use Rattle.own_laws.proofs.MoveLists.{run_from-snoc}
+use Rattle.own_laws.proofs.OwnSteps.{fetch_of-by}
 
 -- the shadow follows its run, while it is to: there was a restart, the own hart hasn't been past the shadow since, each put was whole, and no use has come by the shadow's last instruction
 abbrev pub IsFollowed : World → Run → Type 0
@@ -126,7 +126,7 @@ module _ (w : World) (a : Accepted w) (ms : Moves) (x : Answer) where
   rests-memory some n whole e =
       let here : Since → Option State = λ s. option_and_then (λ (o : State). state_after w.image w.files all_taken o s.own) s.origin in
       let p : (q : State) × (from_restart w next next.since.own ≡ Some q) × OwnIs next q =
-      follows-as (ms ++ (O, x) ∷ []) next (run-snoc w a (opened_run w) ms (O, x)) (subst (λ n. 0 < n) (sym n) some) whole in
+      follows-as (ms ++ (O, x) ∷ []) next (run_from-snoc w (opened_run w) ms (O, x)) (subst (λ n. 0 < n) (sym n) some) whole in
       let q : (q : State) × (from_restart w r r.since.own ≡ Some q) × OwnIs r q = follows-as ms r refl some (subst (λ (s : Since). IsTrue s.whole) e whole) in
       p.2.memory ∙ ap (λ (s : State). s.memory) (one-state (from_restart w r r.since.own) p.0 q.0 (sym (ap here e) ∙ p.1) q.1) ∙ sym q.2.memory
 
@@ -241,27 +241,9 @@ module _ (w : World) (a : Accepted w) (ms : Moves) (x : Answer) where
 
 -- ---- fetches
 
--- the landing of a block leaves the own hart's memory and the counts
-landed-counted : (o : Option BlockSpot) (r : Run) (notes : List Note) → counted_of (landed_with o r notes) ≡ counted_of r
-landed-counted (Some b) r notes = refl
-landed-counted None r notes = refl
-
--- so does a fetch that fails
-failed-counted : (o : Option BlockSpot) (r : Run) (spot : BlockSpot) → counted_of (fetch_failed o r spot) ≡ counted_of r
-failed-counted (Some b) r spot = refl
-failed-counted None r spot = refl
-
--- so does each end of one
-ends-counted : (w : World) (x : Answer) (r : Run) (spot : BlockSpot) → counted_of (fetch_ends w x r spot) ≡ counted_of r
-ends-counted w Failed r spot = failed-counted r.cache.demanded r spot
-ends-counted w Lost r spot = landed-counted r.cache.demanded r _
-ends-counted w Usual r spot = landed-counted r.cache.demanded r _
-ends-counted w (Took k) r spot = landed-counted r.cache.demanded r _
-
--- so does a fetch
+-- a fetch leaves the own hart's memory and the counts
 fetch-counted : (w : World) (o : Option BlockSpot) (x : Answer) (r : Run) → counted_of (fetch_of o w x r) ≡ counted_of r
-fetch-counted w None x r = refl
-fetch-counted w (Some spot) x r = ends-counted w x r spot
+fetch-counted w o x r = fetch_of-by w x r (λ next. counted_of next ≡ counted_of r) (λ b. refl) o
 
 -- at each fetch
 pub fetch-followed : (w : World) (r : Run) (x : Answer) → IsFollowed w r → IsFollowed w (step w r (D, x))

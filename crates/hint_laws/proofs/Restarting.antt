@@ -33,8 +33,8 @@ use Rattle.side_model.specs.Hart.{Regs}
 use Rattle.code_model.specs.Tables.{Tabs, TableOk}
 use Rattle.side_model.specs.Tables.{HasTabs}
 use Rattle.side_model.specs.Sees.{shade_of}
+use Rattle.side_model.specs.Places.{IsInstruction}
 use Rattle.side_model.proofs.Registers.{regs_of, HasRegs-of}
-use Rattle.rows_log.specs.CallRows.{IsSite}
 use Rattle.shadow_laws.proofs.OwnShades.{watched_of}
 use Rattle.shadow_laws.proofs.ShadowRuns.{HasTables, has-tables, run-keeps, gate-site, restart-target, restart-at, has-box}
 use Rattle.shadow_laws.proofs.Sound.{Target}
@@ -159,7 +159,7 @@ module _ (w : World) where
 
 -- the state at the gate is at a call of the text, and the own hart still has its memory and its descriptors
 pub record IsAsking (w : World) (r : Run) : Type 0 where
-  pub site : IsSite w.image.layout r.at_gate.pc
+  pub site : IsInstruction w.image.layout r.at_gate.pc
   pub call : instr_at w.image r.at_gate ≡ Some Ecall
   pub goes_on : r.at_gate.exited ≡ None
   pub memory : r.own.memory ≡ r.at_gate.memory
@@ -167,7 +167,7 @@ pub record IsAsking (w : World) (r : Run) : Type 0 where
 
 module _ (w : World) (a : Accepted w) where
   -- in the stub, up to its call
-  is-asking : (r : Run) (t : Tally) (q : State) → IsSite w.image.layout r.at_gate.pc → AtCall w t q → r.at_gate ≡ q → r.own.memory ≡ q.memory → r.own.files ≡ q.files → IsAsking w r
+  is-asking : (r : Run) (t : Tally) (q : State) → IsInstruction w.image.layout r.at_gate.pc → AtCall w t q → r.at_gate ≡ q → r.own.memory ≡ q.memory → r.own.files ≡ q.files → IsAsking w r
   is-asking r t q site g gate memory files =
       record {
         site = site;
@@ -178,7 +178,7 @@ module _ (w : World) (a : Accepted w) where
       }
 
   -- by the stage of the own side
-  asks-at : (x : Answer) (r : Run) → r.end ≡ None → IsSite w.image.layout r.at_gate.pc → OwnSide w (side_of r) → r.view ≡ Stub → (own_step w x r).restarts ≢ r.restarts → IsAsking w r
+  asks-at : (x : Answer) (r : Run) → r.end ≡ None → IsInstruction w.image.layout r.at_gate.pc → OwnSide w (side_of r) → r.view ≡ Stub → (own_step w x r).restarts ≢ r.restarts → IsAsking w r
   asks-at x r z site (in_program t place gate s page h f is) v n = program_stub (sym (ap (λ (p : Side). p.view) is) ∙ v)
   asks-at x r z site (in_stub t q k b c d page g row most is) v n =
       is-asking r t q site g (ap (λ (p : Side). p.gate) is) (ap (λ (p : Side). p.own.memory) is) (ap (λ (p : Side). p.own.files) is)

@@ -25,7 +25,7 @@ use Rattle.side_model.specs.Hart.{Regs, Priv}
 use Rattle.code_model.specs.Tables.{Tabs}
 use Rattle.side_model.specs.Places.{Place, InBlock, InHelper, Away, address, HasBlock}
 use Rattle.side_model.specs.Sees.{Shade}
-use Rattle.side_model.specs.JumpRows.{JumpRow, j1, j2, j3, j4, j5, j6, j7, j8, j9, j10, j11, j12, j13, j14, j15, j16, lands, faults}
+use Rattle.side_model.specs.JumpRows.{JumpRow, j1}
 use Rattle.side_model.proofs.Numbers.{TextFits}
 use Rattle.rows_log.specs.RestartRows.{RestartedRow, UnboxedRow, r49, r50}
 use Rattle.shadow_laws.proofs.Sound.{is_helper}
@@ -91,28 +91,12 @@ park-call w pc (at_third e) = off-call w pc (grind (arith, nat_tests, e))
 -- ---- rows behind a call
 
 -- at a row of JUMP there are words left
-jump-some : {l : Layout} {at : ℕ} {q : Regs} {place : Place} {rs : Regs} {p : Priv} {t : Tabs} {n : ℕ} → JumpRow l at q place rs p t n → 0 < n
+pub jump-some : {l : Layout} {at : ℕ} {q : Regs} {place : Place} {rs : Regs} {p : Priv} {t : Tabs} {n : ℕ} → JumpRow l at q place rs p t n → 0 < n
 jump-some (j1 p) = lit< tt
-jump-some (j2 p) = lit< tt
-jump-some (j3 p) = lit< tt
-jump-some (j4 p) = lit< tt
-jump-some (j5 p) = lit< tt
-jump-some (j6 p e) = lit< tt
-jump-some (j7 p e) = lit< tt
-jump-some (j8 p e) = lit< tt
-jump-some (j9 p e) = lit< tt
-jump-some (j10 p e) = lit< tt
-jump-some (j11 p e) = lit< tt
-jump-some (j12 p e) = lit< tt
-jump-some (j13 p e) = lit< tt
-jump-some (j14 p e) = lit< tt
-jump-some (j15 p e) = lit< tt
-jump-some (j16 p e) = lit< tt
-jump-some (lands p e) = lit< tt
-jump-some (faults p e) = lit< tt
+jump-some _ = lit< tt
 
 -- and behind RESTART's HCALL
-restarted-some : {l : Layout} {site : ℕ} {q : Regs} {place : Place} {rs : Regs} {s : Priv} {t : Tabs} {n : ℕ} → RestartedRow l site q place rs s t n → 0 < n
+pub restarted-some : {l : Layout} {site : ℕ} {q : Regs} {place : Place} {rs : Regs} {s : Priv} {t : Tabs} {n : ℕ} → RestartedRow l site q place rs s t n → 0 < n
 restarted-some (inl row) = unboxed-some row
   where
     unboxed-some : {l : Layout} {site : ℕ} {q : Regs} {place : Place} {rs : Regs} {s : Priv} {t : Tabs} {n : ℕ} → UnboxedRow l site q place rs s t n → 0 < n

@@ -5,7 +5,7 @@ use Rattle.spec_base.specs.declared.layout.Layout.{Layout}
 use Rattle.spec_base.specs.declared.note.ShadowState.TheVariants.{Running}
 use Rattle.rv_decode.specs.Encoding.{IsEncodable}
 use Rattle.rv_decode.specs.declared.instr.Instr.{Instr}
-use Rattle.rv_decode.specs.declared.instr.Instr.TheVariants.{Lui, Auipc, Jal, Jalr, Branch, Load, Store, OpImm, OpImmW, Op, OpW, Fence, Ecall, Ebreak, Hgate, Hleave, Hsite, Hkey, Hstop, Hrestart, Hcall, Hpark, Illegal}
+use Rattle.rv_decode.specs.declared.instr.Instr.TheVariants.{Auipc, Jal, Jalr, Branch, Load, Store, Ecall}
 use Rattle.rv_decode.specs.declared.instr.BranchOp.{BranchOp}
 use Rattle.rv_decode.specs.declared.instr.LoadOp.{LoadOp}
 use Rattle.rv_decode.specs.declared.instr.StoreOp.{StoreOp}
@@ -19,19 +19,17 @@ use Rattle.run_laws.specs.OwnLaws.{Accepted}
 use Rattle.side_model.specs.Hart.{Regs, get, put, Priv}
 use Rattle.code_model.specs.Tables.{Tabs, TableOk}
 use Rattle.side_model.specs.Tables.{HasTabs}
-use Rattle.side_model.specs.Places.{Place, InBlock, address, HasBlock}
+use Rattle.side_model.specs.Places.{Place, InBlock, address, HasBlock, IsInstruction}
 use Rattle.side_model.specs.Words.{Point}
 use Rattle.side_model.specs.Sees.{Shade, Sees}
 use Rattle.side_model.specs.JumpRows.{JumpRow, JumpFits}
 use Rattle.side_model.proofs.Fetching.{CodeAt}
-use Rattle.rows_access.specs.Accesses as access
 use Rattle.rows_access.specs.Accesses.{Allows, seen}
 use Rattle.rows_access.specs.LoadRows.{LoadsRow}
 use Rattle.rows_access.specs.StoreRows.{StoresRow}
 use Rattle.rows_access.proofs.LoadWords.{load_starts}
 use Rattle.rows_access.proofs.StoreWords.{store_starts}
-use Rattle.rows_flow.specs.Following.{IsInstruction}
-use Rattle.rows_flow.specs.PlainRows.{Computes, a_lui, an_imm, an_imm_w, an_op, an_op_w, a_fence, PlainRow, AuipcRow, Stops, at_ebreak, at_gate, at_leave, at_site, at_key, at_stop, at_restart, at_call, at_halt, at_illegal, ParkRow}
+use Rattle.rows_flow.specs.PlainRows.{Computes, PlainRow, AuipcRow, Stops, ParkRow}
 use Rattle.rows_flow.specs.BranchRows.{BranchRow}
 use Rattle.rows_flow.specs.JalRows.{JalRow, PadRow}
 use Rattle.rows_flow.specs.JalrRows.{JalrRow}
@@ -39,10 +37,9 @@ use Rattle.rows_flow.proofs.PlainWords.{plain_starts, auipc_starts, park_starts}
 use Rattle.rows_flow.proofs.BranchWords.{branch_starts}
 use Rattle.rows_flow.proofs.JalWords.{jal_starts}
 use Rattle.rows_flow.proofs.JalrWords.{jalr_starts}
-use Rattle.rows_log.specs.CallRows.{IsSite}
 use Rattle.rows_log.specs.RestartRows.{HasBox, RestartRow, RestartedRow}
 use Rattle.shadow_laws.proofs.AnyCalls.{AnyCallRow, b1, is_seventh}
-use Rattle.shadow_laws.proofs.Sound.{At, bare, Standing, stands-at, flow-is, access-is, site-is, at-first}
+use Rattle.shadow_laws.proofs.Sound.{At, bare, Standing, stands-at, at-first, instruction-is, Kind, kind-of, is_computing, is_stopping, is_auipc, is_jal, is_jalr, is_branch, is_load, is_store, is_ecall, auipc-legal}
 use Rattle.shadow_laws.proofs.TextBlocks.{InText, at-block}
 
 -- ---- what is known
@@ -97,19 +94,19 @@ pub data Within (w : World) (bytes : ℕ → Option ℕ) (program : Memory) : Do
   parking : {h : Shade} {n : ℕ} (p : ℕ) (i : Instr) (q : Regs) → IsInstruction w.image.layout p → Stops i
       → At w (block_at w.image.layout p) (block w.image.layout p i) (bare (ParkRow q)) h n → Within w bytes program (does p i q) h n
   guarded : {h : Shade} {n : ℕ} (q : Regs) → At w (block_at w.image.layout w.image.layout.text_end) guard_block (bare (ParkRow q)) h n → Within w bytes program (ends q) h n
-  loading : {h : Shade} {n : ℕ} (p : ℕ) (op : LoadOp) (rd rs1 : ℕ) (imm : ℤ) (q : Regs) → access.IsInstruction w.image.layout p
+  loading : {h : Shade} {n : ℕ} (p : ℕ) (op : LoadOp) (rd rs1 : ℕ) (imm : ℤ) (q : Regs) → IsInstruction w.image.layout p
       → At w (block_at w.image.layout p) (block w.image.layout p (Load op rd rs1 imm))
       (bare (LoadsRow w.image.layout p op rd rs1 imm q (known_from bytes (plus_int (get rs1 q) imm) (load_width op)))) h n → Within w bytes program (does p (Load op rd rs1 imm) q) h n
-  storing : {h : Shade} {n : ℕ} (p : ℕ) (op : StoreOp) (rs1 rs2 : ℕ) (imm : ℤ) (q : Regs) (t0 : Tabs) → access.IsInstruction w.image.layout p
+  storing : {h : Shade} {n : ℕ} (p : ℕ) (op : StoreOp) (rs1 rs2 : ℕ) (imm : ℤ) (q : Regs) (t0 : Tabs) → IsInstruction w.image.layout p
       → At w (block_at w.image.layout p) (block w.image.layout p (Store op rs1 rs2 imm)) (StoresRow w.image.layout p op rs1 rs2 imm q bytes program t0) h n
       → Within w bytes program (does p (Store op rs1 rs2 imm) q) h n
-  calling : {h : Shade} {n : ℕ} (p : ℕ) (q : Regs) → IsSite w.image.layout p → (at : At w (block_at w.image.layout p) (block w.image.layout p Ecall) (bare (AnyCallRow w.image.layout p q)) h n)
+  calling : {h : Shade} {n : ℕ} (p : ℕ) (q : Regs) → IsInstruction w.image.layout p → (at : At w (block_at w.image.layout p) (block w.image.layout p Ecall) (bare (AnyCallRow w.image.layout p q)) h n)
       → is_seventh at.point.place ≡ false → Within w bytes program (does p Ecall q) h n
-  answered : {h : Shade} {n : ℕ} (p answer : ℕ) (q : Regs) → IsSite w.image.layout p
+  answered : {h : Shade} {n : ℕ} (p answer : ℕ) (q : Regs) → IsInstruction w.image.layout p
       → At w (block_at w.image.layout p) (block w.image.layout p Ecall) (bare (BehindRow (put 10 answer q))) h n → Within w bytes program (goes_to (p + 4) (put 10 answer q)) h n
-  restarting : {h : Shade} {n : ℕ} (site : ℕ) (q : Regs) (base : ℕ) (words : List Instr) → IsSite w.image.layout site → JumpFits w.image.layout (site + 4) q base words
+  restarting : {h : Shade} {n : ℕ} (site : ℕ) (q : Regs) (base : ℕ) (words : List Instr) → IsInstruction w.image.layout site → JumpFits w.image.layout (site + 4) q base words
       → At w base words (λ place rs s t m k. RestartRow w.image.layout site q place rs s t k × HasBox m site q) h n → Within w bytes program (restarts site q) h n
-  unboxing : {h : Shade} {n : ℕ} (site : ℕ) (q : Regs) (base : ℕ) (words : List Instr) → IsSite w.image.layout site → JumpFits w.image.layout (site + 4) q base words
+  unboxing : {h : Shade} {n : ℕ} (site : ℕ) (q : Regs) (base : ℕ) (words : List Instr) → IsInstruction w.image.layout site → JumpFits w.image.layout (site + 4) q base words
       → At w base words (bare (RestartedRow w.image.layout site q)) h n → Within w bytes program (goes_to (site + 4) q) h n
 
 -- in each row the shadow runs, and the tables are consistent
@@ -154,61 +151,36 @@ module _ (w : World) (a : Accepted w) (bytes : ℕ → Option ℕ) (program : Me
     abbrev v1 : Type 0
     v1 = Sees l (block_at l p) h (record s { place = InBlock 1 }) h.shared
 
-    -- an instruction that computes
-    computes : (i : Instr) → Computes i → InText w p i → v1 → Begins
-    computes i c is v = begun i is 2 (omega arith) (computing p i s.regs (flow-is w a is) c (at-first w a s ok i (bare (PlainRow i s.regs)) 2 is v (plain_starts i s.regs s.priv s.tabs)))
-
-    -- one that stops the shadow
-    stops : (i : Instr) → Stops i → InText w p i → v1 → Begins
-    stops i c is v = begun i is 1 (omega arith) (parking p i s.regs (flow-is w a is) c (at-first w a s ok i (bare (ParkRow s.regs)) 1 is v (park_starts s.regs s.priv s.tabs)))
-
-    -- each
-    by-instr : (i : Instr) → InText w p i → v1 → Begins
+    -- by the rows of its block
+    by-kind : {i : Instr} → Kind i → InText w p i → v1 → Begins
     unfolding at-first
-    by-instr (Lui rd imm) is v = computes (Lui rd imm) (a_lui rd imm) is v
-    by-instr (OpImm op rd rs1 imm) is v = computes (OpImm op rd rs1 imm) (an_imm op rd rs1 imm) is v
-    by-instr (OpImmW op rd rs1 imm) is v = computes (OpImmW op rd rs1 imm) (an_imm_w op rd rs1 imm) is v
-    by-instr (Op op rd rs1 rs2) is v = computes (Op op rd rs1 rs2) (an_op op rd rs1 rs2) is v
-    by-instr (OpW op rd rs1 rs2) is v = computes (OpW op rd rs1 rs2) (an_op_w op rd rs1 rs2) is v
-    by-instr (Fence number) is v = computes (Fence number) (a_fence number) is v
-    by-instr (Auipc rd imm) is v =
+    by-kind {i} (is_computing c) is v = begun i is 2 (omega arith) (computing p i s.regs (instruction-is w a is) c (at-first w a s ok i (bare (PlainRow i s.regs)) 2 is v (plain_starts i s.regs s.priv s.tabs)))
+    by-kind {i} (is_stopping c) is v = begun i is 1 (omega arith) (parking p i s.regs (instruction-is w a is) c (at-first w a s ok i (bare (ParkRow s.regs)) 1 is v (park_starts s.regs s.priv s.tabs)))
+    by-kind (is_auipc rd imm) is v =
         begun (Auipc rd imm) is 4 (omega arith)
-        (quartering p rd imm s.regs (flow-is w a is) (is.encodable (λ e. not_illegal e))
+        (quartering p rd imm s.regs (instruction-is w a is) (is.encodable (auipc-legal rd imm))
         (at-first w a s ok (Auipc rd imm) (bare (AuipcRow rd (plus_int p imm) s.regs)) 4 is v (auipc_starts rd (plus_int p imm) s.regs s.priv s.tabs)))
-      where
-        not_illegal : Auipc rd imm ≡ Illegal → ⊥
-        not_illegal e = cc
-    by-instr (Jal rd imm) is v =
+    by-kind (is_jal rd imm) is v =
         begun (Jal rd imm) is 6 (omega arith)
-        (linking p rd imm s.regs (flow-is w a is) (at-first w a s ok (Jal rd imm) (bare (JalRow l p rd (plus_int p imm) s.regs)) 6 is v (jal_starts l p rd (plus_int p imm) s.regs s.priv s.tabs)))
-    by-instr (Jalr rd rs1 imm) is v =
+        (linking p rd imm s.regs (instruction-is w a is) (at-first w a s ok (Jal rd imm) (bare (JalRow l p rd (plus_int p imm) s.regs)) 6 is v (jal_starts l p rd (plus_int p imm) s.regs s.priv s.tabs)))
+    by-kind (is_jalr rd rs1 imm) is v =
         begun (Jalr rd rs1 imm) is 25 (omega arith)
-        (going p rd rs1 imm s.regs (flow-is w a is) (at-first w a s ok (Jalr rd rs1 imm) (bare (JalrRow l p rd rs1 imm s.regs)) 25 is v (jalr_starts l p rd rs1 imm s.regs s.priv s.tabs)))
-    by-instr (Branch op rs1 rs2 imm) is v =
+        (going p rd rs1 imm s.regs (instruction-is w a is) (at-first w a s ok (Jalr rd rs1 imm) (bare (JalrRow l p rd rs1 imm s.regs)) 25 is v (jalr_starts l p rd rs1 imm s.regs s.priv s.tabs)))
+    by-kind (is_branch op rs1 rs2 imm) is v =
         begun (Branch op rs1 rs2 imm) is 2 (omega arith)
-        (branching p op rs1 rs2 imm s.regs (flow-is w a is) (at-first w a s ok (Branch op rs1 rs2 imm) (bare (BranchRow op rs1 rs2 s.regs)) 2 is v (branch_starts op rs1 rs2 s.regs s.priv s.tabs)))
-    by-instr (Load op rd rs1 imm) is v =
+        (branching p op rs1 rs2 imm s.regs (instruction-is w a is) (at-first w a s ok (Branch op rs1 rs2 imm) (bare (BranchRow op rs1 rs2 s.regs)) 2 is v (branch_starts op rs1 rs2 s.regs s.priv s.tabs)))
+    by-kind (is_load op rd rs1 imm) is v =
         let given : Option ℕ = known_from bytes (plus_int (get rs1 s.regs) imm) (load_width op) in
         begun (Load op rd rs1 imm) is 227 (omega arith)
-        (loading p op rd rs1 imm s.regs (access-is w a is)
+        (loading p op rd rs1 imm s.regs (instruction-is w a is)
         (at-first w a s ok (Load op rd rs1 imm) (bare (LoadsRow l p op rd rs1 imm s.regs given)) 227 is v (load_starts l p op rd rs1 imm s.regs given s.priv s.tabs)))
-    by-instr (Store op rs1 rs2 imm) is v =
+    by-kind (is_store op rs1 rs2 imm) is v =
         begun (Store op rs1 rs2 imm) is 227 (omega arith)
-        (storing p op rs1 rs2 imm s.regs s.tabs (access-is w a is)
+        (storing p op rs1 rs2 imm s.regs s.tabs (instruction-is w a is)
         (at-first w a s ok (Store op rs1 rs2 imm) (StoresRow l p op rs1 rs2 imm s.regs bytes program s.tabs) 227 is v
         (store_starts l p op rs1 rs2 imm s.regs bytes program s.priv s.tabs h.shared (λ x i j. sees s.tabs v.tabs x))))
-    by-instr Ecall is v =
-        begun Ecall is 31 (omega arith) (calling p s.regs (site-is w a is) (at-first w a s ok Ecall (bare (AnyCallRow l p s.regs)) 31 is v (b1 s.priv)) refl)
-    by-instr Ebreak is v = stops Ebreak at_ebreak is v
-    by-instr Hgate is v = stops Hgate at_gate is v
-    by-instr Hleave is v = stops Hleave at_leave is v
-    by-instr (Hsite rd) is v = stops (Hsite rd) (at_site rd) is v
-    by-instr (Hkey rd) is v = stops (Hkey rd) (at_key rd) is v
-    by-instr Hstop is v = stops Hstop at_stop is v
-    by-instr Hrestart is v = stops Hrestart at_restart is v
-    by-instr (Hcall unhinted) is v = stops (Hcall unhinted) (at_call unhinted) is v
-    by-instr (Hpark cause) is v = stops (Hpark cause) (at_halt cause) is v
-    by-instr Illegal is v = stops Illegal at_illegal is v
+    by-kind is_ecall is v =
+        begun Ecall is 31 (omega arith) (calling p s.regs (instruction-is w a is) (at-first w a s ok Ecall (bare (AnyCallRow l p s.regs)) 31 is v (b1 s.priv)) refl)
 
   -- at word 1 of a block, where the known bytes are what the shadow sees, it begins
   pub begins : (p base : ℕ) (h : Shade) (s : Point) (m : Memory) → HasBlock l p → address base s.place ≡ block_at l p + 4 → TableOk l s.tabs → Sees l base h s m → AreSeen l bytes program h.shared → Begun w bytes program p s.regs h
@@ -218,7 +190,7 @@ module _ (w : World) (a : Accepted w) (bytes : ℕ → Option ℕ) (program : Me
       shown x is = record { pc = v.pc ∙ e ∙ omega (arith, is); regs = v.regs; priv = v.priv; tabs = v.tabs; shared = refl; running = v.running }
 
       by_place : ((i : Instr) × InText w p i) ⊎ ((p ≡ l.text_end) × CodeAt w (block_at l l.text_end) guard_block) → Begun w bytes program p s.regs h
-      by_place (inl (i, is)) = by-instr p h s ok sees i is (shown p refl)
+      by_place (inl (i, is)) = by-kind p h s ok sees (kind-of i) is (shown p refl)
       by_place (inr (end, code)) =
           at_end end 1 (omega arith)
           (guarded s.regs (record { code = code; point = record s { place = InBlock 1 }; shown = shown l.text_end (sym end); ok = ok; row = park_starts s.regs s.priv s.tabs }))

@@ -16,7 +16,7 @@ use Rattle.rv_model.specs.Arithmetic.{load_width}
 use Rattle.rv_model.specs.Rights.{in_text}
 use Rattle.rv_model.specs.Space.{program_byte, text_byte}
 use Rattle.rv_model.proofs.Results.{Bytes, wrap-small}
-use Rattle.code_model.specs.Blocks.{block, is_target}
+use Rattle.code_model.specs.Blocks.{block}
 use Rattle.code_model.specs.Places.{block_at}
 use Rattle.code_model.specs.Regions.{entry_of, slots_in_use}
 use Rattle.run_model.specs.Run.{World, Run, Answer, rewritten_words}
@@ -27,21 +27,20 @@ use Rattle.own_laws.proofs.Reached.{false_true}
 use Rattle.side_model.specs.Hart.{Regs, get, put, Priv}
 use Rattle.code_model.specs.Tables.{Tabs, TableOk, all_regions}
 use Rattle.side_model.specs.Tables.{HasTabs}
-use Rattle.side_model.specs.Places.{Place, InBlock, InHelper, Away, Jumping, address, is_inner, code, IsBase, HasBlock}
+use Rattle.side_model.specs.Places.{Place, InBlock, InHelper, Away, Jumping, address, is_inner, code, IsBase, HasBlock, IsInstruction}
 use Rattle.side_model.specs.Words.{Point, Out, Goes, Loads, Stores, Keys, Calls, Parks, Fails, exec, exec_some}
 use Rattle.side_model.specs.Rows as led
 use Rattle.side_model.specs.Rows.{Led, on, leaps, calls}
 use Rattle.side_model.specs.Sees.{Shade, shade_of, Sees, HasRegs, Landed, goes_on, arrived, parked}
 use Rattle.side_model.specs.JumpRows.{JumpRow}
 use Rattle.side_model.proofs.Fetching.{Fetches, code-fetches}
-use Rattle.side_model.proofs.Numbers.{target-inside}
 use Rattle.rows_access.specs.Accesses.{Allows, seen, AccessFaults, load_size, store_size}
 use Rattle.rows_access.specs.LoadRows.{LoadArrives}
 use Rattle.rows_access.specs.StoreRows.{Stage, Before, Copying, Listed, Counting, Found, After, AtStage, StoresRow, StoreArrives, StoreParks, faults, full_up}
 use Rattle.rows_access.proofs.Reach.{reached}
 use Rattle.rows_access.proofs.LoadWords.{load_leads}
 use Rattle.rows_access.proofs.StoreWords.{store_leads}
-use Rattle.rows_flow.specs.Following.{IsInstruction, FlowArrives, FlowFaults, Follows}
+use Rattle.rows_flow.specs.Following.{FlowArrives, FlowFaults, Follows}
 use Rattle.rows_flow.specs.PlainRows as plain
 use Rattle.rows_flow.specs.PlainRows.{GuardFaults, Computes, a_lui, an_imm, an_imm_w, an_op, an_op_w, a_fence, at_ebreak, at_gate, at_leave, at_site, at_key, at_stop, at_restart, at_call, at_halt, at_illegal, ParkRow, h1}
 use Rattle.rows_flow.specs.JalRows.{JalRow, PadRow, pad, Crosses, stays, crosses}
@@ -50,17 +49,15 @@ use Rattle.rows_flow.proofs.PlainWords.{plain_leads, auipc_leads, park_leads, gu
 use Rattle.rows_flow.proofs.BranchWords.{branch_leads}
 use Rattle.rows_flow.proofs.JalWords.{jal_leads, pad_leads}
 use Rattle.rows_flow.proofs.JalrWords.{jalr_leads, jump_follows}
-use Rattle.rows_flow.proofs.Crossing.{crossing-shows}
-use Rattle.rows_log.specs.CallRows.{IsSite, CallArrives}
+use Rattle.rows_log.specs.CallRows.{CallArrives}
 use Rattle.rows_log.specs.RestartRows.{is_hcall, RestartRow, r1, r2, r3, r4, r5, r6, r7, r8, r9, r10, r11, r12, r13, r14, r15, r16, r17, r18-47, r48, AreLoaded, IsFresh, IsAnswered, RestartNext, word, call, RestartedRow, UnboxedRow, r49, r50}
 use Rattle.rows_log.proofs.CallWords.{called_arrives}
 use Rattle.rows_log.proofs.RestartWords.{restart_leads, restarted_leads, box_stays}
 use Rattle.shadow_laws.proofs.AnyCalls as any
 use Rattle.shadow_laws.proofs.AnyCalls.{AnyCallRow, AnyCallNext, LeavesTables, is_sixth, is_seventh, at-call, any_call-leads}
 use Rattle.shadow_laws.proofs.ShadowNumbers.{Sized, stock_of}
-use Rattle.shadow_laws.proofs.Sound.{At, bare, is_helper, jump-place, Target, target-of, target-block, pad-target}
-use Rattle.shadow_laws.proofs.SoundSteps.{landed, next as step-to}
-use Rattle.shadow_laws.proofs.TextBlocks.{InText, at-address}
+use Rattle.shadow_laws.proofs.Sound.{At, bare, is_helper, jump-place, Target, target-of, pad-target}
+use Rattle.shadow_laws.proofs.SoundSteps.{landed, next as step-to, HasCrossed, crossed-at, crossed-to}
 use Rattle.mark_laws.proofs.OneInstruction.{true_false}
 use Rattle.hint_laws.proofs.Within.{known_from, AreSeen, Doing, does, ends, restarts, goes_to, joined, BehindRow, behind, Within, computing, quartering, branching, linking, padding, going, jumping, parking, guarded, loading, storing, calling, answered, restarting, unboxing}
 
@@ -355,6 +352,23 @@ not-raised m b e = omega (arith, e)
 
 -- ---- one word
 
+-- the word behind the HCALL arrives behind the call
+pub behind-leads : (w : World) (r : Run) {n : ℕ} (p answer : ℕ) (q : Regs) → IsInstruction w.image.layout p
+    → (at : At w (block_at w.image.layout p) (block w.image.layout p Ecall) (bare (BehindRow (put 10 answer q))) (shade_of r) n)
+    → Led w.image.layout (program_byte w.image.layout (rewritten_words w) r.own.memory) (block_at w.image.layout p) (λ place rs s t m k. ⊥) (CallArrives p q answer at.point.tabs r.shared) (λ cause t m. ⊥) n
+    (exec_some (block_at w.image.layout p) (code w.image.layout (block w.image.layout p Ecall) at.point.place) at.point r.shared)
+behind-leads w r {n} p answer q is at =
+    let l : Layout = w.image.layout in
+    let program : Memory = program_byte l (rewritten_words w) r.own.memory in
+    let row : (at.point.place ≡ InBlock 7) × (at.point.regs ≡ put 10 answer q) × (n ≡ 1) = behind-is at.row in
+    let leads : Place → Regs → ℕ → Type 0 =
+    λ place rs k.
+    Led l program (block_at l p) (λ place rs s t m k. ⊥) (CallArrives p q answer at.point.tabs r.shared) (λ cause t m. ⊥) k
+    (exec_some (block_at l p) (code l (block l p Ecall) place) (record { place = place; regs = rs; priv = at.point.priv; tabs = at.point.tabs }) r.shared) in
+    subst (λ k. leads at.point.place at.point.regs k) (sym row.2)
+    (subst (λ place. leads place at.point.regs 1) (sym row.0)
+    (subst (λ rs. leads (InBlock 7) rs 1) (sym row.1) (called_arrives l p q answer program is at.point.priv at.point.tabs r.shared at.ok)))
+
 module _ (w : World) (a : Accepted w) (x : Answer) (r : Run) (z : Sized (stock_of r)) (bytes : ℕ → Option ℕ) where
   abbrev l : Layout
   l = w.image.layout
@@ -457,23 +471,12 @@ module _ (w : World) (a : Accepted w) (x : Answer) (r : Run) (z : Sized (stock_o
       → LeadsOn (does p (Jal rd imm) q) n
   crossed p rd imm q n is at (stays d) = flow at (λ s k inner row v ok. (linking p rd imm q is (step-to w a x r z at s v ok row), inner-at s inner (inl refl) v)) d
   crossed p rd imm q n is at (crosses k register offset e to row less) =
-      let target : ℕ = plus_int p imm in
-      let inside : is_target l target ≡ true = pad-target row in
-      let b : HasBlock l target = target-block w a target inside in
-      let i : (i : Instr) × InText w target i = at-address w a target b (target-inside l target inside).below in
-      let v : Sees l (block_at l target) after (record at.point { place = InBlock 0 }) r.shared =
-      crossing-shows w x (block_at l p) (block_at l target) (block l p (Jal rd imm)) (omega (arith, b.whole)) at.code r at.point at.shown register offset e to in
+      let c : HasCrossed w (plus_int p imm) at.point r.shared after = crossed-to w a x r p rd imm at register offset e to (pad-target row) in
       goes k (grind (arith, nat_tests, less))
-      (padding p rd imm q (block l target i.0) is refl
-      (record {
-        code = i.1.code;
-        point = record at.point { place = InBlock 0 };
-        shown = record { pc = v.pc; regs = v.regs; priv = v.priv; tabs = v.tabs; shared = refl; running = v.running };
-        ok = at.ok;
-        row = subst (λ (m : Memory). PadRow l p rd target q (InBlock 0) at.point.regs at.point.priv at.point.tabs k) v.shared row;
-      }))
-      (all v.shared)
-      (at_pad (omega (arith, v.pc, i.1.code.lawful.whole)))
+      (padding p rd imm q (block l (plus_int p imm) c.word) is refl
+      (crossed-at at.ok c (bare (PadRow l p rd (plus_int p imm) q)) row))
+      (all c.shown.shared)
+      (at_pad (omega (arith, c.shown.pc, c.is.code.lawful.whole)))
       (ap is_call_word (fetched at (Jalr 0 register offset) e))
 
   -- a copy stays where the tables keep its entry
@@ -482,7 +485,7 @@ module _ (w : World) (a : Accepted w) (x : Answer) (r : Run) (z : Sized (stock_o
       has'.entry region g ∙ f region (subst (λ n. 0 < n) (has.entry region g) some) ∙ sym (has.entry region g)
 
   -- a word of a call's block, or of APPEND
-  called : {n : ℕ} (p : ℕ) (q : Regs) → IsSite l p → (at : At w (block_at l p) (block l p Ecall) (bare (AnyCallRow l p q)) (shade_of r) n) → is_seventh at.point.place ≡ false
+  called : {n : ℕ} (p : ℕ) (q : Regs) → IsInstruction l p → (at : At w (block_at l p) (block l p Ecall) (bare (AnyCallRow l p q)) (shade_of r) n) → is_seventh at.point.place ≡ false
       → (is_sixth at.point.place ≡ false → IsQuiet w r) → (s : Point) (k : ℕ) → k < n → is_inner s.place ≡ true
       → AnyCallNext l p q at.point.place at.point.tabs r.shared s.place s.regs s.priv s.tabs after.shared k → Sees l (block_at l p) after s after.shared → TableOk l s.tabs → LeadsOn (does p Ecall q) n
   unfolding step-to
@@ -502,17 +505,9 @@ module _ (w : World) (a : Accepted w) (x : Answer) (r : Run) (z : Sized (stock_o
           (answered p answer q is (step-to w a x r z at s v ok behind-row)) (behind_call p refl (v.pc ∙ ap (address (block_at l p)) place))
 
   -- the word behind the HCALL
-  behind-call : {n : ℕ} (p answer : ℕ) (q : Regs) → IsSite l p → At w (block_at l p) (block l p Ecall) (bare (BehindRow (put 10 answer q))) (shade_of r) n → LeadsOn (goes_to (p + 4) (put 10 answer q)) n
+  behind-call : {n : ℕ} (p answer : ℕ) (q : Regs) → IsInstruction l p → At w (block_at l p) (block l p Ecall) (bare (BehindRow (put 10 answer q))) (shade_of r) n → LeadsOn (goes_to (p + 4) (put 10 answer q)) n
   behind-call {n} p answer q is at =
-      let row : (at.point.place ≡ InBlock 7) × (at.point.regs ≡ put 10 answer q) × (n ≡ 1) = behind-is at.row in
-      let leads : Place → Regs → ℕ → Type 0 =
-      λ place rs k.
-      Led l program (block_at l p) (λ place rs s t m k. ⊥) (CallArrives p q answer at.point.tabs r.shared) (λ cause t m. ⊥) k
-      (exec_some (block_at l p) (code l (block l p Ecall) place) (record { place = place; regs = rs; priv = at.point.priv; tabs = at.point.tabs }) r.shared) in
-      let d : leads at.point.place at.point.regs n =
-      subst (λ k. leads at.point.place at.point.regs k) (sym row.2)
-      (subst (λ place. leads place at.point.regs 1) (sym row.0)
-      (subst (λ rs. leads (InBlock 7) rs 1) (sym row.1) (called_arrives l p q answer program is at.point.priv at.point.tabs r.shared at.ok))) in
+      let d = behind-leads w r p answer q is at in
       let quiet : IsQuiet w r = quiet-by at IsLeft not-left (λ s m k row. absurd row) (λ p s m y. same-left y.memory) d in
       settles (λ s k less inner row v ok. absurd row) (λ p s y has. (returns y.next y.registers y.memory, quiet)) (λ cause t m why. absurd why) (landed w a x r z at d)
 

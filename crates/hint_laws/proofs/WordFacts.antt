@@ -13,15 +13,15 @@ use Rattle.rv_decode.specs.declared.instr.Instr.TheVariants.{Lui, Auipc, Jal, Ja
 use Rattle.rv_decode.specs.declared.instr.LoadOp.{LoadOp}
 use Rattle.rv_model.specs.Memory.{Memory, all_from}
 use Rattle.rv_model.specs.Registers.{Registers, reg, with_reg}
-use Rattle.rv_model.specs.Rights.{Rights, in_private, shadow_rights}
+use Rattle.rv_model.specs.Rights.{Rights, in_private}
 use Rattle.rv_model.specs.Arithmetic.{is_taken, store_width}
 use Rattle.rv_model.specs.Effect.{Effect, effect, after, jump_if, branch_if, load_if, store_if}
-use Rattle.rv_model.specs.Space.{shadow_sees}
 use Rattle.program_model.specs.Calls.{CallPlan, Set, Look, Read, Write, Exit}
 use Rattle.program_model.specs.PlainRun.{State}
-use Rattle.run_model.specs.Run.{World, Run, ShadowHart, Answer, Usual, Took, Failed, Lost, rewritten_words}
+use Rattle.run_model.specs.Run.{World, Run, ShadowHart, Answer, Usual, Took, Failed, Lost}
 use Rattle.run_model.specs.ShadowMoves.{fetch_shadow, is_running, is_arrival, is_call_word, shadow_at, parked, arrived_if, word_counted, shadow_plan, assumed, assumed_with, look_assumed, hint_given, fill, fill_if, is_filled, shadow_stores, shadow_after, shadow_at_word, shadow_in, shadow_step}
 use Rattle.own_laws.proofs.Reached.{false_true}
+use Rattle.own_laws.proofs.InvisibleShadow.{shadow_effect}
 use Rattle.shadow_laws.proofs.Sound.{parked_running}
 use Rattle.shadow_laws.proofs.LinkSteps.{stores-go_on}
 use Rattle.mark_laws.specs.Agreement.{assumed_answer, is_exit, is_read}
@@ -218,9 +218,12 @@ outcome-steady w x r i y faults = refl
 outcome-steady w x r i y (calls u e) = assumed-steady w x r u (shadow_plan w r)
 outcome-steady w x r i y (parks cause e) = refl
 
--- an arrival is counted, and so is a word
-counted-leaves : (w : World) (r y : Run) (b : Bool) → steady_of y ≡ steady_of r → (is_running y.shadow.state && is_arrival w.image.layout y.shadow.pc) ≡ b → WordLeaves w r (word_counted (arrived_if b y))
-counted-leaves w r y true e f =
+-- what a word leaves, by all of these but the count of arrivals
+leaves-as : (w : World) (r next : Run) → record (steady_of next) { arrivals = r.since.shadow } ≡ steady_of r
+    → (next.shadow.state ≡ Running → is_arrival w.image.layout next.shadow.pc ≡ true → next.since.shadow ≡ r.since.shadow + 1)
+    → (next.shadow.state ≡ Running → is_arrival w.image.layout next.shadow.pc ≡ false → next.since.shadow ≡ r.since.shadow)
+    → (next.shadow.state ≢ Running → next.since.shadow ≡ r.since.shadow) → WordLeaves w r next
+leaves-as w r next e arrives between halts =
     record {
       own = ap (λ (s : Steady). s.own) e;
       restarts = ap (λ (s : Steady). s.restarts) e;
@@ -228,34 +231,33 @@ counted-leaves w r y true e f =
       ahead = ap (λ (s : Steady). s.ahead) e;
       whole = ap (λ (s : Steady). s.whole) e;
       origin = ap (λ (s : Steady). s.origin) e;
-      arrives = λ s h. ap (λ (s : Steady). s.arrivals + 1) e;
-      between = λ s h. false_true (sym (both (is_arrival w.image.layout y.shadow.pc) s h) ∙ f);
-      halts = λ n. absurd (n (runs y.shadow.state (is_arrival w.image.layout y.shadow.pc) f));
+      arrives = arrives;
+      between = between;
+      halts = halts;
     }
-  where
-    both : (b : Bool) → y.shadow.state ≡ Running → b ≡ false → (is_running y.shadow.state && b) ≡ false
-    both b s h = ap (λ (z : ShadowState). is_running z && b) s ∙ h
 
+-- a test beside that of a running shadow
+running-and : (s : ShadowState) (b c : Bool) → s ≡ Running → b ≡ c → (is_running s && b) ≡ c
+running-and s b c h e = ap (λ (z : ShadowState). is_running z && b) h ∙ e
+
+-- an arrival is counted, and so is a word
+counted-leaves : (w : World) (r y : Run) (b : Bool) → steady_of y ≡ steady_of r → (is_running y.shadow.state && is_arrival w.image.layout y.shadow.pc) ≡ b → WordLeaves w r (word_counted (arrived_if b y))
+counted-leaves w r y true e f =
+    leaves-as w r (word_counted (arrived_if true y)) (ap (λ (s : Steady). record s { arrivals = r.since.shadow }) e)
+    (λ s h. ap (λ (s : Steady). s.arrivals + 1) e)
+    (λ s h. false_true (sym (running-and y.shadow.state _ false s h) ∙ f))
+    (λ n. absurd (n (runs y.shadow.state (is_arrival w.image.layout y.shadow.pc) f)))
+  where
     runs : (s : ShadowState) (b : Bool) → (is_running s && b) ≡ true → s ≡ Running
     runs Running b h = refl
     runs Never b h = false_true h
     runs Stopped b h = false_true h
     runs (Parked cause) b h = false_true h
 counted-leaves w r y false e f =
-    record {
-      own = ap (λ (s : Steady). s.own) e;
-      restarts = ap (λ (s : Steady). s.restarts) e;
-      since_own = ap (λ (s : Steady). s.done) e;
-      ahead = ap (λ (s : Steady). s.ahead) e;
-      whole = ap (λ (s : Steady). s.whole) e;
-      origin = ap (λ (s : Steady). s.origin) e;
-      arrives = λ s h. false_true (sym f ∙ both (is_arrival w.image.layout y.shadow.pc) s h);
-      between = λ s h. ap (λ (s : Steady). s.arrivals) e;
-      halts = λ n. ap (λ (s : Steady). s.arrivals) e;
-    }
-  where
-    both : (b : Bool) → y.shadow.state ≡ Running → b ≡ true → (is_running y.shadow.state && b) ≡ true
-    both b s h = ap (λ (z : ShadowState). is_running z && b) s ∙ h
+    leaves-as w r (word_counted (arrived_if false y)) (ap (λ (s : Steady). record s { arrivals = r.since.shadow }) e)
+    (λ s h. false_true (sym f ∙ running-and y.shadow.state _ true s h))
+    (λ s h. ap (λ (s : Steady). s.arrivals) e)
+    (λ n. ap (λ (s : Steady). s.arrivals) e)
 
 -- ---- what a call does to the shadow
 
@@ -481,8 +483,7 @@ counted-parks w r y false cause f s =
 module _ (w : World) (x : Answer) (r : Run) where
   -- what the word comes to
   abbrev word_effect : Instr → Effect
-  word_effect i =
-      effect Shadow (shadow_rights w.image.layout) (shadow_sees w.image.layout (rewritten_words w) r.own.memory r.shared r.shadow_page) r.shadow.registers r.shadow.pc i
+  word_effect i = shadow_effect w r i
 
   -- the run behind it, before it is counted
   abbrev behind_word : Instr → Run

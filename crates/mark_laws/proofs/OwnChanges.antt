@@ -1,32 +1,19 @@
 -- What an own move changes of the program's memory is marked, or settled, in the run from the restart.
-use Rattle.std.proofs.Common.{◌≡◌, ℕ, suc, ◌+◌, ◌<◌, ◌⊎◌, inl, inr, Bool, true, false, List, [], ◌∷◌, ◌++◌, drop, Option, Some, None, refl, ◌∙◌, ap, sym, subst, arith}
+use Rattle.std.proofs.Common.{◌≡◌, ℕ, suc, ◌+◌, ◌<◌, ◌⊎◌, inl, inr, Bool, true, false, [], ◌∷◌, ◌++◌, Option, Some, None, refl, ◌∙◌, ap, sym, subst, arith}
 use Rattle.std.specs.Prelude.{IsTrue}
-use Rattle.spec_base.specs.Layout.{stub_start}
-use Rattle.spec_base.specs.declared.machine.View.{View}
-use Rattle.spec_base.specs.declared.machine.View.TheVariants.{Plain, Program, Stub, Shadow}
-use Rattle.spec_base.specs.declared.note.Move.{Move}
 use Rattle.spec_base.specs.declared.note.Move.TheVariants.{O}
-use Rattle.spec_base.specs.declared.spot.ReadSpot.{ReadSpot}
-use Rattle.rv_decode.specs.declared.instr.Instr.{Instr}
-use Rattle.rv_decode.specs.declared.instr.Instr.TheVariants.{Hleave, Hsite, Hkey, Hstop, Hrestart}
 use Rattle.rv_model.specs.Memory.{zeros, Memory}
-use Rattle.rv_model.specs.Rights.{data_rights, stub_rights, in_private}
-use Rattle.rv_model.specs.Effect.{Effect, Next, Stored, Trapped, Called, Gated, effect, fetched}
-use Rattle.rv_model.specs.Space.{stub_sees}
-use Rattle.program_model.specs.Calls.{CallPlan, Set, Look, Read, Write, Exit}
-use Rattle.program_model.specs.Cache.{Gathered, gather, blocks_of}
-use Rattle.program_model.specs.PlainRun.{State, plan_of}
-use Rattle.code_model.specs.Stub.{stub}
-use Rattle.run_model.specs.Run.{World, Run, RunEnd, Answer, Usual, Took, Failed, Lost, rewritten_text, opened_run}
-use Rattle.run_model.specs.OwnMoves.{program_after, program_at, stub_after, stub_at, stub_stores, gate_step, own_call_step, read_on, look_done, write_step, own_in, own_unless}
-use Rattle.run_model.specs.Moves.{Moves, begun, step, step_unless, run, run_from}
+use Rattle.program_model.specs.PlainRun.{State}
+use Rattle.run_model.specs.Run.{World, Run, RunEnd, Answer, opened_run}
+use Rattle.run_model.specs.Moves.{Moves, begun, step, step_unless, run}
 use Rattle.run_model.specs.Restarts.{from_restart, action}
 use Rattle.run_laws.specs.OwnLaws.{Accepted, OwnIs}
 use Rattle.own_laws.proofs.OwnLaws.{own_follows}
 use Rattle.mark_laws.specs.Settled.{changes, IsCovered, OwnChangesAreCovered}
-use Rattle.mark_laws.proofs.Horizons.{and_left}
 use Rattle.mark_laws.proofs.Numbers.{from_restart-origin}
 use Rattle.mark_laws.proofs.Changes.{others_are_left, changes_are_covered}
+use Rattle.own_laws.proofs.MoveLists.{run_from-snoc}
+use Rattle.own_laws.proofs.OwnSteps.{own_step-by}
 
 -- ---- the count of an own move
 
@@ -37,85 +24,6 @@ pub data OwnCount (r next : Run) : Type 0 where
   restarts_anew : next.restarts ≡ r.restarts + 1 → OwnCount r next
 
 module _ (w : World) where
-  -- a look
-  look_done-count : (x : Answer) (r : Run) (name : List ℕ) → OwnCount r (look_done w x r name)
-  look_done-count Failed r name = rests refl refl refl
-  look_done-count Usual r name = counts refl (λ h. h) refl
-  look_done-count (Took k) r name = counts refl (λ h. h) refl
-  look_done-count Lost r name = counts refl (λ h. h) refl
-
-  -- a read that goes on
-  read_on-count : (b : Bool) (d : ℕ) (spot : ReadSpot) (a : ℕ) (g : Gathered) (r : Run) → OwnCount r (read_on b w d spot a g r)
-  read_on-count true d spot a g r = rests refl refl refl
-  read_on-count false d spot a g r = counts refl (λ h. h) refl
-
-  -- a put
-  write_step-count : (x : Answer) (r : Run) (to_out : Bool) (a n : ℕ) → OwnCount r (write_step w x r to_out a n)
-  write_step-count Failed r to_out a n = rests refl refl refl
-  write_step-count Usual r to_out a n = counts refl (λ h. and_left r.since.whole _ h) refl
-  write_step-count (Took k) r to_out a n = counts refl (λ h. and_left r.since.whole _ h) refl
-  write_step-count Lost r to_out a n = counts refl (λ h. and_left r.since.whole _ h) refl
-
-  -- a planned call
-  own_call-count : (x : Answer) (r : Run) (c : CallPlan) → OwnCount r (own_call_step w x r c)
-  own_call-count x r (Set f answer) = counts refl (λ h. h) refl
-  own_call-count x r (Look name) = look_done-count x r name
-  own_call-count x r (Read d spot a) = let g : Gathered = gather r.cache r.gathered (drop r.gathered (blocks_of spot)) in read_on-count g.waits d spot a g r
-  own_call-count x r (Write to_out a n) = write_step-count x r to_out a n
-  own_call-count x r (Exit code) = counts refl (λ h. h) refl
-
-  -- a gate instruction of the stub
-  gate-count : (x : Answer) (r : Run) (i : Instr) → OwnCount r (gate_step w x r i)
-  gate-count x r Hleave = rests refl refl refl
-  gate-count x r (Hsite rd) = rests refl refl refl
-  gate-count x r (Hkey rd) = rests refl refl refl
-  gate-count x r Hstop = rests refl refl refl
-  gate-count x r Hrestart = restarts_anew refl
-  gate-count x r _ = own_call-count x r (plan_of w.image.layout r.own)
-
-  -- a store of the stub
-  stores-count : (b : Bool) (r : Run) (a width n : ℕ) → OwnCount r (stub_stores b r a width n)
-  stores-count true r a width n = rests refl refl refl
-  stores-count false r a width n = rests refl refl refl
-
-  -- a word of the stub, by its effect
-  stub_after-count : (x : Answer) (r : Run) (e : Effect) → OwnCount r (stub_after w x r e)
-  stub_after-count x r (Next rs pc) = rests refl refl refl
-  stub_after-count x r (Stored a width n) = stores-count (in_private a) r a width n
-  stub_after-count x r (Trapped cause) = rests refl refl refl
-  stub_after-count x r (Gated i) = gate-count x r i
-  stub_after-count x r Called = rests refl refl refl
-
-  -- and by its instruction
-  stub_at-count : (x : Answer) (r : Run) (o : Option Instr) → OwnCount r (stub_at w x r o)
-  stub_at-count x r None = rests refl refl refl
-  stub_at-count x r (Some i) = stub_after-count x r (effect Stub stub_rights (stub_sees r.shared r.own_page) r.own.registers r.own.pc i)
-
-  -- a word of the program, by its effect
-  program_after-count : (r : Run) (e : Effect) → OwnCount r (program_after r e)
-  program_after-count r (Next rs pc) = counts refl (λ h. h) refl
-  program_after-count r (Stored a width v) = counts refl (λ h. h) refl
-  program_after-count r (Trapped cause) = rests refl refl refl
-  program_after-count r Called = rests refl refl refl
-  program_after-count r (Gated i) = rests refl refl refl
-
-  -- and by its instruction
-  program_at-count : (r : Run) (o : Option Instr) → OwnCount r (program_at w r o)
-  program_at-count r None = rests refl refl refl
-  program_at-count r (Some i) = program_after-count r (effect Program (data_rights w.image.layout) r.own.memory r.own.registers r.own.pc i)
-
-  -- a word of either
-  own_in-count : (v : View) (x : Answer) (r : Run) → OwnCount r (own_in v w x r)
-  own_in-count Program x r = program_at-count r (fetched (rewritten_text w) w.image.layout.text_start r.own.pc)
-  own_in-count Stub x r = stub_at-count x r (fetched stub stub_start r.own.pc)
-  own_in-count Plain x r = rests refl refl refl
-  own_in-count Shadow x r = rests refl refl refl
-
-  -- a hart that may wait
-  own_unless-count : (b : Bool) (x : Answer) (r : Run) → OwnCount r (own_unless b w x r)
-  own_unless-count true x r = rests refl refl refl
-  own_unless-count false x r = own_in-count r.view x r
-
   -- an own move
   pub own-count : (x : Answer) (r : Run) → OwnCount r (step w r (O, x))
   own-count x r = by_end r.end
@@ -127,13 +35,20 @@ module _ (w : World) where
 
       by_end : (e : Option RunEnd) → OwnCount r (step_unless e w r (O, x))
       by_end (Some e) = rests refl refl refl
-      by_end None = from_begun (own_unless-count r.stalled x (begun r))
-
--- one move more
-run-snoc : (w : World) (r : Run) (ms : Moves) (m : Move × Answer) → run_from w r (ms ++ m ∷ []) ≡ step w (run_from w r ms) m
-unfolding run_from
-run-snoc w r [] m = refl
-run-snoc w r (n ∷ ms) m = run-snoc w (step w r n) ms m
+      by_end None = from_begun
+          (own_step-by w x (begun r) (OwnCount (begun r))
+          (record {
+            stays = λ b. rests refl refl refl;
+            goes = λ rs pc. counts refl (λ h. h) refl;
+            stores = λ a width v. counts refl (λ h. h) refl;
+            enters = rests refl refl refl;
+            computes = λ rs pc page. rests refl refl refl;
+            links = λ i a width v e f. rests refl refl refl;
+            leaves = λ v. rests refl refl refl;
+            stops = rests refl refl refl;
+            restarts = λ v. restarts_anew refl;
+            performs_call = λ taken whole b h. counts refl h refl;
+          }))
 
 -- ---- the law
 
@@ -162,7 +77,7 @@ own_changes_are_covered w a ms answer numbers i started same whole few x =
 
     -- the state of the own hart behind the move
     behind : (q : State) × (from_restart w next next.since.own ≡ Some q) × OwnIs next q
-    behind = follows_as w a (ms ++ (O, answer) ∷ []) next (run-snoc w (opened_run w) ms (O, answer)) (subst (λ n. 0 < n) (sym same) started) whole
+    behind = follows_as w a (ms ++ (O, answer) ∷ []) next (run_from-snoc w (opened_run w) ms (O, answer)) (subst (λ n. 0 < n) (sym same) started) whole
 
     -- which is that of the same run from the restart, after so many instructions
     reached : next.since.origin ≡ r.since.origin → (n : ℕ) → next.since.own ≡ n → from_restart w r n ≡ Some behind.0

@@ -4,35 +4,30 @@ use Rattle.std.specs.Prelude.{⊤, slice_get, slice_set, unwrap_or, ◌+ℤ◌}
 use Rattle.std.specs.Option.{option_map, option_and_then}
 use Rattle.std.proofs.lemmas.List.{length-take, length-drop}
 use Rattle.spec_base.specs.Files.{Name, Files}
-use Rattle.spec_base.specs.Layout.{image_limit, stub_start}
+use Rattle.spec_base.specs.Layout.{image_limit}
 use Rattle.spec_base.specs.declared.layout.Layout.{Layout}
-use Rattle.spec_base.specs.declared.machine.View.{View}
-use Rattle.spec_base.specs.declared.machine.View.TheVariants.{Plain, Program, Stub, Shadow}
+use Rattle.spec_base.specs.declared.machine.View.TheVariants.{Plain}
 use Rattle.spec_base.specs.declared.note.Move.{Move}
 use Rattle.spec_base.specs.declared.note.Move.TheVariants.{O, S, T, D}
-use Rattle.spec_base.specs.declared.note.Note.{Note}
-use Rattle.spec_base.specs.declared.spot.BlockSpot.{BlockSpot}
 use Rattle.spec_base.specs.declared.spot.ReadSpot.{ReadSpot}
 use Rattle.rv_decode.specs.declared.instr.Instr.{Instr}
-use Rattle.rv_decode.specs.declared.instr.Instr.TheVariants.{Hleave, Hsite, Hkey, Hstop, Hrestart}
 use Rattle.rv_model.specs.Memory.{Memory, all_from}
 use Rattle.rv_model.specs.Registers.{reg}
-use Rattle.rv_model.specs.Rights.{is_data, data_rights, stub_rights, in_private}
+use Rattle.rv_model.specs.Rights.{is_data, data_rights}
 use Rattle.rv_model.specs.Arithmetic.{signed}
 use Rattle.rv_model.specs.Effect.{Effect, Next, Stored, Trapped, Called, Gated, effect, fetched}
-use Rattle.rv_model.specs.Space.{stub_sees}
-use Rattle.program_model.specs.Cache.{Gathered, gather, blocks_of, in_flight}
+use Rattle.program_model.specs.Cache.{in_flight}
 use Rattle.program_model.specs.Descriptors.{Descriptor, Free, Null, Out, Err, File, Descriptors, slot, with_slot, start_of, lowest_free, EINVAL}
 use Rattle.program_model.specs.Calls.{CallPlan, Set, Look, Read, Write, Exit, CallKind, Open, OpenAt, Close, Seek, ReadFile, WriteFile, ExitProgram, Break, Unknown, kind_of, call_plan, Named, Refused, Whole, name_at, look_if_free, open_named, open_plan, close_plan, seek_base, moved_to, seek_from, seek_plan, read_count, read_if, read_plan, put_if, write_plan, break_plan, plan_by, opened, opened_at, advanced, after_read, bytes_read}
 use Rattle.program_model.specs.PlainRun.{State, Image, Taken, Step, Went, Traps, size_in, plan_of, performed, taken_by, all_taken, after_effect, at_word, next, completed, next_unless, next_state, state_after, text_of}
-use Rattle.code_model.specs.Stub.{stub}
-use Rattle.run_model.specs.Run.{World, Run, RunEnd, Answer, Usual, Took, Failed, Lost, opened_run, rewritten_text}
-use Rattle.run_model.specs.OwnMoves.{program_after, program_at, own_call_step, read_on, look_done, write_step, taken_in, gate_step, stub_stores, stub_after, stub_at, own_in, own_unless}
-use Rattle.run_model.specs.Moves.{Moves, step, step_unless, begun, run, run_from, fetch_of, fetch_ends, fetch_failed, landed_with}
+use Rattle.run_model.specs.Run.{World, Run, RunEnd, Answer, opened_run}
+use Rattle.run_model.specs.OwnMoves.{own_step}
+use Rattle.run_model.specs.Moves.{Moves, step, step_unless, begun, run, run_from}
 use Rattle.run_laws.specs.OwnLaws.{Accepted}
 use Rattle.own_laws.proofs.InvisibleShadow.{shadow_move-keeps}
 use Rattle.own_laws.proofs.Reached.{none_some}
 use Rattle.own_laws.proofs.Side.{Side, side_of, Kept}
+use Rattle.own_laws.proofs.OwnSteps.{own_step-by, fetch_of-by}
 use Rattle.mark_laws.specs.Agreement.{assumed_answer, HasAll}
 use Rattle.mark_laws.specs.Sizes.{TrueSizes, PlansFindAll, StatesFindAll, CallsKeepSizes, PerformedKeepSizes, NextKeepsSizes, StatesKeepSizes, SizesAreTrue}
 
@@ -369,107 +364,22 @@ module _ (w : World) where
   performed-keeps : (taken : ℕ) (c : CallPlan) (r : Run) → PlanTrue w.files c → Keeps r → TrueStock w.files (record (stock_of (side_of r)) { own = (performed w.files taken c r.own).files })
   performed-keeps taken c r l z = record { own = performed-true w.files taken c r.own z.own l; gate = z.gate; origin = z.origin }
 
-  -- a look
-  look_done-keeps : (x : Answer) (r : Run) (name : Name) → PlanTrue w.files (Look name) → Keeps r → Keeps (look_done w x r name)
-  look_done-keeps Failed r name l z = z
-  look_done-keeps Usual r name l z = performed-keeps 0 (Look name) r l z
-  look_done-keeps (Took k) r name l z = performed-keeps 0 (Look name) r l z
-  look_done-keeps Lost r name l z = performed-keeps 0 (Look name) r l z
-
-  -- a read that waits, or is done
-  read_on-keeps : (b : Bool) (d : ℕ) (spot : ReadSpot) (a : ℕ) (g : Gathered) (r : Run) → PlanTrue w.files (Read d spot a) → Keeps r → Keeps (read_on b w d spot a g r)
-  read_on-keeps true d spot a g r l z = z
-  read_on-keeps false d spot a g r l z = performed-keeps 0 (Read d spot a) r l z
-
-  -- a put
-  write_step-keeps : (x : Answer) (r : Run) (to_out : Bool) (a n : ℕ) → PlanTrue w.files (Write to_out a n) → Keeps r → Keeps (write_step w x r to_out a n)
-  write_step-keeps Failed r to_out a n l z = z
-  write_step-keeps Usual r to_out a n l z = performed-keeps (taken_in Usual n) (Write to_out a n) r l z
-  write_step-keeps (Took k) r to_out a n l z = performed-keeps (taken_in (Took k) n) (Write to_out a n) r l z
-  write_step-keeps Lost r to_out a n l z = performed-keeps (taken_in Lost n) (Write to_out a n) r l z
-
-  -- a call
-  own_call-keeps : (x : Answer) (r : Run) (c : CallPlan) → PlanTrue w.files c → Keeps r → Keeps (own_call_step w x r c)
-  own_call-keeps x r (Set f answer) l z = performed-keeps 0 (Set f answer) r l z
-  own_call-keeps x r (Look name) l z = look_done-keeps x r name l z
-  own_call-keeps x r (Read d spot a) l z =
-      let g : Gathered = gather r.cache r.gathered (drop r.gathered (blocks_of spot)) in read_on-keeps g.waits d spot a g r l z
-  own_call-keeps x r (Write to_out a n) l z = write_step-keeps x r to_out a n l z
-  own_call-keeps x r (Exit code) l z = performed-keeps 0 (Exit code) r l z
-
-  -- a gate instruction of the stub
-  gate-keeps : (x : Answer) (r : Run) (i : Instr) → Keeps r → Keeps (gate_step w x r i)
-  gate-keeps x r Hleave z = z
-  gate-keeps x r (Hsite rd) z = z
-  gate-keeps x r (Hkey rd) z = z
-  gate-keeps x r Hstop z = z
-  gate-keeps x r Hrestart z = record { own = z.own; gate = z.gate; origin = z.gate }
-  gate-keeps x r _ z = own_call-keeps x r (plan_of w.image.layout r.own) (plan_of-true w.files w.image.layout r.own z.own) z
-
-  -- a store of the stub
-  stub_stores-keep : (b : Bool) (r : Run) (a width v : ℕ) → Keeps r → Keeps (stub_stores b r a width v)
-  stub_stores-keep true r a width v z = z
-  stub_stores-keep false r a width v z = z
-
-  -- an effect of the stub
-  stub_after-keeps : (x : Answer) (r : Run) (e : Effect) → Keeps r → Keeps (stub_after w x r e)
-  stub_after-keeps x r (Next rs pc) z = z
-  stub_after-keeps x r (Stored a width v) z = stub_stores-keep (in_private a) r a width v z
-  stub_after-keeps x r (Trapped cause) z = z
-  stub_after-keeps x r (Gated i) z = gate-keeps x r i z
-  stub_after-keeps x r Called z = z
-
-  -- a word of the stub
-  stub_at-keeps : (x : Answer) (r : Run) (o : Option Instr) → Keeps r → Keeps (stub_at w x r o)
-  stub_at-keeps x r None z = z
-  stub_at-keeps x r (Some i) z = stub_after-keeps x r (effect Stub stub_rights (stub_sees r.shared r.own_page) r.own.registers r.own.pc i) z
-
-  -- an effect of the program: at a gate the state is kept
-  program_after-keeps : (r : Run) (e : Effect) → Keeps r → Keeps (program_after r e)
-  program_after-keeps r (Next rs pc) z = z
-  program_after-keeps r (Stored a width v) z = z
-  program_after-keeps r (Trapped cause) z = z
-  program_after-keeps r Called z = z
-  program_after-keeps r (Gated i) z = record { own = z.own; gate = z.own; origin = z.origin }
-
-  -- a word of the program
-  program_at-keeps : (r : Run) (o : Option Instr) → Keeps r → Keeps (program_at w r o)
-  program_at-keeps r None z = z
-  program_at-keeps r (Some i) z = program_after-keeps r (effect Program (data_rights w.image.layout) r.own.memory r.own.registers r.own.pc i) z
-
-  -- a word by the view
-  own_in-keeps : (v : View) (x : Answer) (r : Run) → Keeps r → Keeps (own_in v w x r)
-  own_in-keeps Program x r z = program_at-keeps r (fetched (rewritten_text w) w.image.layout.text_start r.own.pc) z
-  own_in-keeps Stub x r z = stub_at-keeps x r (fetched stub stub_start r.own.pc) z
-  own_in-keeps Plain x r z = z
-  own_in-keeps Shadow x r z = z
-
-  -- a word of a hart that may wait
-  own_unless-keeps : (b : Bool) (x : Answer) (r : Run) → Keeps r → Keeps (own_unless b w x r)
-  own_unless-keeps true x r z = z
-  own_unless-keeps false x r z = own_in-keeps r.view x r z
-
-  -- a block that lands
-  landed-keeps : (o : Option BlockSpot) (r : Run) (notes : List Note) → Keeps r → Keeps (landed_with o r notes)
-  landed-keeps (Some b) r notes z = z
-  landed-keeps None r notes z = z
-
-  -- a fetch that fails
-  failed-keeps : (o : Option BlockSpot) (r : Run) (spot : BlockSpot) → Keeps r → Keeps (fetch_failed o r spot)
-  failed-keeps (Some b) r spot z = z
-  failed-keeps None r spot z = z
-
-  -- a fetch that ends
-  ends-keeps : (x : Answer) (r : Run) (spot : BlockSpot) → Keeps r → Keeps (fetch_ends w x r spot)
-  ends-keeps Failed r spot z = failed-keeps r.cache.demanded r spot z
-  ends-keeps Lost r spot z = landed-keeps r.cache.demanded r _ z
-  ends-keeps Usual r spot z = landed-keeps r.cache.demanded r _ z
-  ends-keeps (Took k) r spot z = landed-keeps r.cache.demanded r _ z
-
-  -- a fetch, if there is one
-  fetch-keeps : (o : Option BlockSpot) (x : Answer) (r : Run) → Keeps r → Keeps (fetch_of o w x r)
-  fetch-keeps None x r z = z
-  fetch-keeps (Some spot) x r z = ends-keeps x r spot z
+  -- an own move
+  own_step-keeps : (x : Answer) (r : Run) → Keeps r → Keeps (own_step w x r)
+  own_step-keeps x r z =
+      own_step-by w x r Keeps
+      (record {
+        stays = λ b. z;
+        goes = λ rs pc. z;
+        stores = λ a width v. z;
+        enters = record { own = z.own; gate = z.own; origin = z.origin };
+        computes = λ rs pc page. z;
+        links = λ i a width v e f. z;
+        leaves = λ v. z;
+        stops = z;
+        restarts = λ v. record { own = z.own; gate = z.gate; origin = z.gate };
+        performs_call = λ taken whole b h. performed-keeps taken (plan_of w.image.layout r.own) r (plan_of-true w.files w.image.layout r.own z.own) z;
+      })
 
   -- each move keeps the sizes
   step-keeps : (m : Move) (x : Answer) (r : Run) → Keeps r → Keeps (step w r (m, x))
@@ -479,12 +389,12 @@ module _ (w : World) where
     where
       by_end : (e : Option RunEnd) → Keeps (step_unless e w r (O, x))
       by_end (Some e) = z
-      by_end None = own_unless-keeps r.stalled x (begun r) z
+      by_end None = own_step-keeps x (begun r) z
   step-keeps D x r z = by_end r.end
     where
       by_end : (e : Option RunEnd) → Keeps (step_unless e w r (D, x))
       by_end (Some e) = z
-      by_end None = fetch-keeps (in_flight r.cache) x (begun r) z
+      by_end None = fetch_of-by w x (begun r) Keeps (λ b. z) (in_flight r.cache)
 
   -- so does a list of moves
   run_from-keeps : (ms : Moves) (r : Run) → Keeps r → Keeps (run_from w r ms)

@@ -8,19 +8,20 @@ use Rattle.std.proofs.lemmas.Bool.{cases_lt}
 use Rattle.spec_base.specs.Word.{byte_of, word_of_int}
 use Rattle.spec_base.specs.Files.{Name, Files}
 use Rattle.spec_base.specs.declared.spot.ReadSpot.{ReadSpot}
-use Rattle.spec_base.specs.declared.machine.View.TheVariants.{Plain}
+use Rattle.spec_base.specs.declared.machine.View.TheVariants.{Plain, Program, Stub, Shadow}
 use Rattle.rv_decode.specs.declared.instr.Instr.{Instr}
-use Rattle.rv_decode.specs.declared.instr.Instr.TheVariants.{Lui, Auipc, Jal, Jalr, Branch, Load, Store, OpImm, OpImmW, Op, OpW, Fence}
+use Rattle.rv_decode.specs.declared.instr.Instr.TheVariants.{Lui, Auipc, Jal, Jalr, Branch, Load, Store, OpImm, OpImmW, Op, OpW, Fence, Ecall, Ebreak, Hgate, Hleave, Hcall, Illegal}
 use Rattle.rv_decode.specs.declared.instr.LoadOp.{LoadOp}
 use Rattle.rv_model.specs.Memory.{Memory, patched, loaded, is_within}
 use Rattle.rv_model.specs.Registers.{Registers, reg, with_reg}
 use Rattle.rv_model.specs.Rights.{Rights, data_rights, is_data}
 use Rattle.rv_model.specs.Arithmetic.{is_taken, load_width, extended}
-use Rattle.rv_model.specs.Effect.{Effect, Next, Stored, Trapped, Called, Gated, effect, fetched, jump_if, branch_if, load_if, store_if}
+use Rattle.rv_model.specs.Effect.{Effect, Next, Stored, Trapped, Called, Gated, effect, call_effect, gate_effect, fetched, jump_if, branch_if, load_if, store_if}
 use Rattle.program_model.specs.Calls.{CallPlan, Set, Look, Read, Write, Exit, bytes_read, kind_of}
 use Rattle.program_model.specs.PlainRun.{State, Image, Taken, Step, Went, Traps, text_of, plan_of, performed, taken_by, after_effect, at_word, next, completed, next_unless, next_state, state_after, size_in}
 use Rattle.run_laws.specs.OwnLaws.{AllBytes}
 use Rattle.spec_base.specs.declared.layout.Layout.{Layout}
+use Rattle.spec_base.specs.declared.machine.View.{View}
 use Rattle.run_laws.specs.Numbers.{Lawful}
 use Rattle.own_laws.proofs.Offsets.{PlanFits, plan_by-fits, opened-lawful, after_read-lawful}
 use Rattle.rv_model.proofs.Results.{Bytes, load-small, imm_result-small, imm_w_result-small, reg_result-small, reg_w_result-small, wrap-small, word_of_int-small}
@@ -32,7 +33,7 @@ Words rs = (i : ℕ) → rs i < 2 ^ 64
 -- ---- registers
 
 -- what both choices are below, the chosen one is below
-elim-below : (b : Bool) (x y k : ℕ) → x < k → y < k → elim b [ true ↦ x | false ↦ y ] < k
+pub elim-below : (b : Bool) (x y k : ℕ) → x < k → y < k → elim b [ true ↦ x | false ↦ y ] < k
 elim-below true x y k h l = h
 elim-below false x y k h l = l
 
@@ -49,15 +50,15 @@ with_reg-words rs (suc n) v h l = λ i. elim-below (i == suc n) v (rs i) (2 ^ 64
 -- ---- the effect of an instruction
 
 -- an effect leaves registers below 2^64
-abbrev WordsIn : Effect → Type 0
+abbrev pub WordsIn : Effect → Type 0
 WordsIn (Next rs pc) = Words rs
 WordsIn (Stored a width v) = ⊤
 WordsIn (Trapped cause) = ⊤
 WordsIn Called = ⊤
 WordsIn (Gated i) = ⊤
 
-record WordsAfter (e : Effect) : Type 0 where
-  by : WordsIn e
+pub record WordsAfter (e : Effect) : Type 0 where
+  pub by : WordsIn e
 
 -- a jump does
 jump_if-words : (b : Bool) (rs : Registers) (target : ℕ) → Words rs → WordsAfter (jump_if b rs target)
@@ -81,13 +82,29 @@ store_if-words false y a width v = record { by = tt }
 store_if-words true false a width v = record { by = tt }
 store_if-words true true a width v = record { by = tt }
 
-module _ (r : Rights) (m : Memory) (rs : Registers) (pc : ℕ) (h : Words rs) (k : Bytes m) where
+-- a call does
+call_effect-words : (v : View) → WordsAfter (call_effect v)
+call_effect-words Plain = record { by = tt }
+call_effect-words Program = record { by = tt }
+call_effect-words Stub = record { by = tt }
+call_effect-words Shadow = record { by = tt }
+
+-- a gate instruction does
+gate_effect-words : (v : View) (i : Instr) → WordsAfter (gate_effect v i)
+gate_effect-words Program Hgate = record { by = tt }
+gate_effect-words Stub (Hcall false) = record { by = tt }
+gate_effect-words Shadow (Hcall unhinted) = record { by = tt }
+gate_effect-words Plain i = record { by = tt }
+gate_effect-words v Hleave = record { by = tt }
+gate_effect-words v i = record { by = tt }
+
+module _ (v : View) (r : Rights) (m : Memory) (rs : Registers) (pc : ℕ) (h : Words rs) (k : Bytes m) where
   -- register rd has a number below 2^64
   puts : (rd v : ℕ) → v < 2 ^ 64 → Words (with_reg rs rd v)
   puts rd v l = with_reg-words rs rd v h l
 
-  -- each instruction leaves registers below 2^64
-  effect-words : (i : Instr) → WordsAfter (effect Plain r m rs pc i)
+  -- each instruction leaves registers below 2^64, in each view
+  pub effect-words : (i : Instr) → WordsAfter (effect v r m rs pc i)
   effect-words (Lui rd imm) = record { by = puts rd _ (word_of_int-small imm) }
   effect-words (Auipc rd imm) = record { by = puts rd _ (wrap-small (pc + word_of_int imm)) }
   effect-words (Jal rd imm) = jump_if-words _ _ _ (puts rd _ (wrap-small (pc + 4)))
@@ -100,21 +117,24 @@ module _ (r : Rights) (m : Memory) (rs : Registers) (pc : ℕ) (h : Words rs) (k
   effect-words (Op op rd rs1 rs2) = record { by = puts rd _ (reg_result-small op _ _ (reg-small rs rs1 h) (reg-small rs rs2 h)) }
   effect-words (OpW op rd rs1 rs2) = record { by = puts rd _ (reg_w_result-small op _ _) }
   effect-words (Fence word) = record { by = h }
-  effect-words _ = record { by = tt }
+  effect-words Ecall = call_effect-words v
+  effect-words Ebreak = record { by = tt }
+  effect-words Illegal = record { by = tt }
+  effect-words i = gate_effect-words v i
 
 -- ---- memory
 
 -- a byte of a number is below 256
-byte_of-below : (v i : ℕ) → byte_of v i < 256
+pub byte_of-below : (v i : ℕ) → byte_of v i < 256
 byte_of-below v i = omega arith
 
 -- bytes patched into bytes are bytes
-patched-bytes : (m : Memory) (base n : ℕ) (f : Memory) → Bytes m → Bytes f → Bytes (patched m base n f)
+pub patched-bytes : (m : Memory) (base n : ℕ) (f : Memory) → Bytes m → Bytes f → Bytes (patched m base n f)
 unfolding patched
 patched-bytes m base n f h k a = elim-below (is_within base n a) (f (a - base)) (m a) 256 (k (a - base)) (h a)
 
 -- an item of a list of bytes is a byte, and so is the 0 past its end
-get_or-below : (bytes : List ℕ) → AllBytes bytes → (i : ℕ) → get_or bytes i 0 < 256
+pub get_or-below : (bytes : List ℕ) → AllBytes bytes → (i : ℕ) → get_or bytes i 0 < 256
 get_or-below bytes h i = by_case (cases_lt i (length bytes))
   where
     by_case : (i < length bytes) ⊎ (length bytes ≤ i) → get_or bytes i 0 < 256
@@ -126,7 +146,7 @@ abbrev pub FileBytes : Files → Type 0
 FileBytes files = (name : Name) (bytes : List ℕ) → files name ≡ Some bytes → (length bytes < 2 ^ 56) × AllBytes bytes
 
 -- a read gives bytes
-bytes_read-below : (files : Files) (spot : ReadSpot) → FileBytes files → AllBytes (bytes_read files spot)
+pub bytes_read-below : (files : Files) (spot : ReadSpot) → FileBytes files → AllBytes (bytes_read files spot)
 bytes_read-below files spot h = by_content (files spot.name) refl
   where
     by_content : (o : Option (List ℕ)) → files spot.name ≡ o → AllBytes (take spot.count (drop spot.offset (unwrap_or o [])))
@@ -161,7 +181,7 @@ SmallOption (Some size) = size < 2 ^ 56
 
 module _ (files : Files) (h : FileBytes files) where
   -- the size of a file is below 2^56
-  size_in-small : (name : Name) (size : ℕ) → size_in files name ≡ Some size → size < 2 ^ 56
+  pub size_in-small : (name : Name) (size : ℕ) → size_in files name ≡ Some size → size < 2 ^ 56
   size_in-small name size e = by_content (files name) refl e
     where
       by_content : (o : Option (List ℕ)) → files name ≡ o → option_map length o ≡ Some size → size < 2 ^ 56
@@ -206,7 +226,7 @@ module _ (files : Files) (h : FileBytes files) where
     -- each instruction does
     at_word-sized : (s : State) (o : Option Instr) → Sized s → SizedIn (at_word p files t s o)
     at_word-sized s None z = tt
-    at_word-sized s (Some i) z = after_effect-sized s _ z (effect-words (data_rights p.layout) s.memory s.registers s.pc z.registers z.memory i)
+    at_word-sized s (Some i) z = after_effect-sized s _ z (effect-words Plain (data_rights p.layout) s.memory s.registers s.pc z.registers z.memory i)
 
     -- the completed step does
     completed-sized : (step : Step) → SizedIn step → SizedOption (completed step)

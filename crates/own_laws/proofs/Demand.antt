@@ -108,7 +108,7 @@ gather-of c had (spot ∷ spots) = by_test (holds c.cached spot) (needed c spot)
 -- ---- a read has at most 17 blocks
 
 -- n blocks are n
-length-blocks_up : (name : Name) (first n : ℕ) → length (blocks_up name first n) ≡ n
+pub length-blocks_up : (name : Name) (first n : ℕ) → length (blocks_up name first n) ≡ n
 length-blocks_up name first zero = refl
 length-blocks_up name first (suc n) = ap suc (length-blocks_up name (first + 1) n)
 

@@ -1,24 +1,23 @@
 -- In every run: what the stub has stored to the link stays there while it counts, and a restart finds it.
-use Rattle.std.proofs.Common.{◌≡◌, ℕ, ◌+◌, ◌*◌, ◌⊎◌, inl, inr, Bool, true, false, List, [], ◌∷◌, drop, Option, Some, None, refl, ◌∙◌, ap, sym, subst, arith}
+use Rattle.std.proofs.Common.{◌≡◌, ℕ, ◌+◌, ◌*◌, ◌⊎◌, inl, inr, true, false, [], ◌∷◌, Option, Some, None, refl, ◌∙◌, ap, sym, subst, arith}
 use Rattle.spec_base.specs.declared.machine.View.{View}
 use Rattle.spec_base.specs.declared.machine.View.TheVariants.{Program, Stub}
 use Rattle.spec_base.specs.declared.note.ShadowState.{ShadowState}
 use Rattle.spec_base.specs.declared.note.ShadowState.TheVariants.{Never, Running, Stopped}
-use Rattle.spec_base.specs.declared.note.Note.{Note}
 use Rattle.spec_base.specs.declared.note.Move.{Move}
 use Rattle.spec_base.specs.declared.note.Move.TheVariants.{O, S, T, D}
 use Rattle.spec_base.specs.declared.spot.BlockSpot.{BlockSpot}
-use Rattle.spec_base.specs.declared.spot.ReadSpot.{ReadSpot}
+use Rattle.spec_base.specs.Files.{Files}
 use Rattle.rv_decode.specs.declared.instr.Instr.{Instr}
 use Rattle.rv_model.specs.Memory.{Memory}
 use Rattle.rv_model.specs.Registers.{Registers}
-use Rattle.rv_model.specs.Effect.{Effect, Next, Stored, Trapped, Called, Gated, fetched, after}
+use Rattle.rv_model.specs.Effect.{fetched, after}
 use Rattle.program_model.specs.Calls.{CallPlan, Set, Look, Read, Write, Exit}
-use Rattle.program_model.specs.Cache.{Gathered, gather, blocks_of, in_flight}
-use Rattle.program_model.specs.PlainRun.{State}
-use Rattle.run_model.specs.Run.{World, Run, RunEnd, Answer, Usual, Took, Failed, Lost, opened_run, rewritten_text}
-use Rattle.run_model.specs.OwnMoves.{program_after, program_at, own_call_step, read_on, look_done, write_step, write_done, taken_in, own_step}
-use Rattle.run_model.specs.Moves.{Moves, step, step_unless, begun, silent, run, run_from, fetch_of, fetch_ends, fetch_failed, landed_with}
+use Rattle.program_model.specs.Cache.{in_flight}
+use Rattle.program_model.specs.PlainRun.{State, performed}
+use Rattle.run_model.specs.Run.{World, Run, RunEnd, Answer, opened_run, rewritten_text}
+use Rattle.run_model.specs.OwnMoves.{program_at, own_call_step, own_step}
+use Rattle.run_model.specs.Moves.{Moves, step, step_unless, begun, silent, run, run_from, fetch_of}
 use Rattle.run_laws.specs.OwnLaws.{Accepted, IsShadowMove}
 use Rattle.run_laws.specs.StubLaws.{IsEmpty, IsBoxed, LeavesLink, left, takes_head, is_stopped, StubStopsFirst, RestartsFromBox, RestartHasBox}
 use Rattle.own_laws.proofs.Held.{Level, free, halted, headless, emptied, boxing, level, Held, IsFree, free-held, LinkChange, same, head, stopped_first, HeldOn}
@@ -31,7 +30,8 @@ use Rattle.own_laws.proofs.Reached.{reached-fits, none_some}
 use Rattle.own_laws.proofs.Stops.{stopped-before}
 use Rattle.own_laws.proofs.Side.{Side, side_of, with_side, Tally, Kept}
 use Rattle.own_laws.proofs.StubRows.{WordGoes, to_row, to_restarted, to_call, word_goes}
-use Rattle.own_laws.proofs.StubWords.{stub_side, restarted_tally}
+use Rattle.own_laws.proofs.StubWords.{stub_side}
+use Rattle.own_laws.proofs.OwnSteps.{own_call-by, fetch_of-by, program_at-by}
 
 -- ---- what is held in a run
 
@@ -145,49 +145,26 @@ free_left r next e h f g =
     link_left r next e (free_held (place_of next) g (λ s. free-runs (place_of r) h f (sym (ap (λ l. l.state) e) ∙ s)))
     (at_free f g (ap (λ l. l.shared) e) (ap (λ l. l.origin) e))
 
-program_after-link : (r : Run) (e : Effect) → link_of (program_after r e) ≡ link_of r
-program_after-link r (Next rs pc) = refl
-program_after-link r (Stored a width v) = refl
-program_after-link r (Trapped cause) = refl
-program_after-link r Called = refl
-program_after-link r (Gated i) = refl
-
 program_at-link : (w : World) (r : Run) (o : Option Instr) → link_of (program_at w r o) ≡ link_of r
-program_at-link w r None = refl
-program_at-link w r (Some i) = program_after-link r _
+program_at-link w r o = program_at-by w r (λ next. link_of next ≡ link_of r) (λ b. refl) (λ rs pc. refl) (λ a width v. refl) refl o
 
 -- a call leaves the link, and its word or the next is the own hart's
 record CallLeaves (r next : Run) : Type 0 where
   link : link_of next ≡ link_of r
   pc : (next.own.pc ≡ r.own.pc) ⊎ (next.own.pc ≡ after r.own.pc)
 
-look_done-leaves : (w : World) (x : Answer) (r : Run) (name : List ℕ) → CallLeaves r (look_done w x r name)
-look_done-leaves w Failed r name = record { link = refl; pc = inl refl }
-look_done-leaves w Usual r name = record { link = refl; pc = inr refl }
-look_done-leaves w (Took k) r name = record { link = refl; pc = inr refl }
-look_done-leaves w Lost r name = record { link = refl; pc = inr refl }
-
-read_on-leaves : (b : Bool) (w : World) (d : ℕ) (spot : ReadSpot) (a : ℕ) (g : Gathered) (r : Run) → CallLeaves r (read_on b w d spot a g r)
-read_on-leaves true w d spot a g r = record { link = refl; pc = inl refl }
-read_on-leaves false w d spot a g r = record { link = refl; pc = inr refl }
-
-write_done-leaves : (w : World) (k : ℕ) (to_out : Bool) (a n : ℕ) (r : Run) → CallLeaves r (write_done w k to_out a n r)
-write_done-leaves w k true a n r = record { link = refl; pc = inr refl }
-write_done-leaves w k false a n r = record { link = refl; pc = inr refl }
-
-write_step-leaves : (w : World) (x : Answer) (r : Run) (to_out : Bool) (a n : ℕ) → CallLeaves r (write_step w x r to_out a n)
-write_step-leaves w Failed r to_out a n = record { link = refl; pc = inl refl }
-write_step-leaves w Usual r to_out a n = write_done-leaves w (taken_in Usual n) to_out a n r
-write_step-leaves w (Took k) r to_out a n = write_done-leaves w (taken_in (Took k) n) to_out a n r
-write_step-leaves w Lost r to_out a n = write_done-leaves w (taken_in Lost n) to_out a n r
+-- a performed call leads to the next word, or to none where it is an exit
+performed-pc : (files : Files) (taken : ℕ) (c : CallPlan) (s : State) → ((performed files taken c s).pc ≡ s.pc) ⊎ ((performed files taken c s).pc ≡ after s.pc)
+performed-pc files taken (Set f answer) s = inr refl
+performed-pc files taken (Look name) s = inr refl
+performed-pc files taken (Read d spot a) s = inr refl
+performed-pc files taken (Write true a n) s = inr refl
+performed-pc files taken (Write false a n) s = inr refl
+performed-pc files taken (Exit code) s = inl refl
 
 own_call_step-leaves : (w : World) (x : Answer) (r : Run) (c : CallPlan) → CallLeaves r (own_call_step w x r c)
-own_call_step-leaves w x r (Set f answer) = record { link = refl; pc = inr refl }
-own_call_step-leaves w x r (Look name) = look_done-leaves w x r name
-own_call_step-leaves w x r (Read d spot a) =
-    let g : Gathered = gather r.cache r.gathered (drop r.gathered (blocks_of spot)) in read_on-leaves g.waits w d spot a g r
-own_call_step-leaves w x r (Write to_out a n) = write_step-leaves w x r to_out a n
-own_call_step-leaves w x r (Exit code) = record { link = refl; pc = inl refl }
+own_call_step-leaves w x r c =
+    own_call-by w r (CallLeaves r) x c (λ b. record { link = refl; pc = inl refl }) (λ taken whole b h. record { link = refl; pc = performed-pc w.files taken c r.own })
 
 -- at the call
 call-held : (r next : Run) → r.own.pc ≡ spot 26 → HeldAt (place_of r) → CallLeaves r next → OwnHeld r next
@@ -257,24 +234,9 @@ module _ (w : World) (accepted : Accepted w) where
 
   -- ---- the other moves
 
-  landed-place : (o : Option BlockSpot) (r : Run) (notes : List Note) → place_of (landed_with o r notes) ≡ place_of r
-  landed-place (Some b) r notes = refl
-  landed-place None r notes = refl
-
-  failed-place : (o : Option BlockSpot) (r : Run) (spot : BlockSpot) → place_of (fetch_failed o r spot) ≡ place_of r
-  failed-place (Some b) r spot = refl
-  failed-place None r spot = refl
-
-  ends-place : (x : Answer) (r : Run) (spot : BlockSpot) → place_of (fetch_ends w x r spot) ≡ place_of r
-  ends-place Failed r spot = failed-place r.cache.demanded r spot
-  ends-place Lost r spot = landed-place r.cache.demanded r _
-  ends-place Usual r spot = landed-place r.cache.demanded r _
-  ends-place (Took k) r spot = landed-place r.cache.demanded r _
-
   -- a fetch leaves it all
   fetch-place : (o : Option BlockSpot) (x : Answer) (r : Run) → place_of (fetch_of o w x r) ≡ place_of r
-  fetch-place None x r = refl
-  fetch-place (Some spot) x r = ends-place x r spot
+  fetch-place o x r = fetch_of-by w x r (λ next. place_of next ≡ place_of r) (λ b. refl) o
 
   -- a stopped shadow leaves what is held
   Held-stays : (q : State) (v : Level) (m m' : Memory) (s s' : ShadowState) → Held q v m s → (s ≡ Stopped → (m' ≡ m) × (s' ≡ Stopped)) → Held q v m' s'

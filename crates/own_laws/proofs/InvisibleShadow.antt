@@ -99,10 +99,13 @@ arrived_if-keeps : (b : Bool) (r : Run) → Keeps r (arrived_if b r)
 arrived_if-keeps true r = refl
 arrived_if-keeps false r = refl
 
+-- what the shadow sees
+abbrev pub shadow_view : World → Run → Memory
+shadow_view w r = shadow_sees w.image.layout (rewritten_words w) r.own.memory r.shared r.shadow_page
+
 -- what the word at the shadow's pc does
-abbrev shadow_effect : World → Run → Instr → Effect
-shadow_effect w r i =
-    effect Shadow (shadow_rights w.image.layout) (shadow_sees w.image.layout (rewritten_words w) r.own.memory r.shared r.shadow_page) r.shadow.registers r.shadow.pc i
+abbrev pub shadow_effect : World → Run → Instr → Effect
+shadow_effect w r i = effect Shadow (shadow_rights w.image.layout) (shadow_view w r) r.shadow.registers r.shadow.pc i
 
 -- so does each word
 word-keeps : (w : World) (x : Answer) (r : Run) (o : Option Instr) → Keeps r (shadow_at_word w x r o)
@@ -292,7 +295,7 @@ module _ (w : World) (x y : Answer) where
       → shadow_after w x r (shadow_effect w r i) ≡ shadow_after w y r (shadow_effect w r i)
   instr-deaf r i false e h =
       after-deaf r (shadow_effect w r i)
-      (effect-no_call (shadow_rights w.image.layout) (shadow_sees w.image.layout (rewritten_words w) r.own.memory r.shared r.shadow_page) r.shadow.registers r.shadow.pc i e)
+      (effect-no_call (shadow_rights w.image.layout) (shadow_view w r) r.shadow.registers r.shadow.pc i e)
   instr-deaf r (Hcall unhinted) true e h = assumed-deaf r unhinted (shadow_plan w r) h
   instr-deaf r _ true e h = absurd (no e)
     where

@@ -20,3 +20,5 @@ pub mod Text
 pub mod HeldRuns
 pub mod Offsets
 pub mod StubEnds
+pub mod OwnSteps
+pub mod MoveLists

@@ -38,6 +38,8 @@ use Rattle.own_laws.proofs.Reached.{Reached, reached-fits, none_some, false_true
 use Rattle.own_laws.proofs.Side.{Side, side_of, with_side, Tally, Kept}
 use Rattle.own_laws.proofs.Text.{place-small}
 use Rattle.own_laws.proofs.StubWords.{three, three-own, stub_side, restarted_tally, after_word, word_1, word_2, word_3, word_4, word_5, word_6, word_7, word_8, word_9, word_10, word_11, word_12, word_13, word_14, word_15, word_16, word_17, word_18, word_19, word_20, word_21, word_22, word_23, word_24, word_25, word_28, word_71}
+use Rattle.own_laws.proofs.OwnSteps.{own_call-by}
+use Rattle.own_laws.proofs.MoveLists.{run_from-nil, run_from-snoc}
 
 -- ---- the gate
 
@@ -383,32 +385,8 @@ module _ (w : World) (J : Memory → Type 0) (R : Type 0) (q : State) (fits : (i
 -- ---- what an own move takes
 
 -- a call leaves what is shared
-look-shares : (w : World) (x : Answer) (r : Run) (name : List ℕ) → (look_done w x r name).shared ≡ r.shared
-look-shares w Failed r name = refl
-look-shares w Usual r name = refl
-look-shares w (Took k) r name = refl
-look-shares w Lost r name = refl
-
-read-shares : (b : Bool) (w : World) (d : ℕ) (spot : ReadSpot) (a : ℕ) (g : Gathered) (r : Run) → (read_on b w d spot a g r).shared ≡ r.shared
-read-shares true w d spot a g r = refl
-read-shares false w d spot a g r = refl
-
-put-shares : (w : World) (k : ℕ) (to_out : Bool) (a n : ℕ) (r : Run) → (write_done w k to_out a n r).shared ≡ r.shared
-put-shares w k true a n r = refl
-put-shares w k false a n r = refl
-
-write-shares : (w : World) (x : Answer) (r : Run) (to_out : Bool) (a n : ℕ) → (write_step w x r to_out a n).shared ≡ r.shared
-write-shares w Failed r to_out a n = refl
-write-shares w Usual r to_out a n = put-shares w (taken_in Usual n) to_out a n r
-write-shares w (Took k) r to_out a n = put-shares w (taken_in (Took k) n) to_out a n r
-write-shares w Lost r to_out a n = put-shares w (taken_in Lost n) to_out a n r
-
 call-shares : (w : World) (x : Answer) (r : Run) (c : CallPlan) → (own_call_step w x r c).shared ≡ r.shared
-call-shares w x r (Set f answer) = refl
-call-shares w x r (Look name) = look-shares w x r name
-call-shares w x r (Read d spot a) = let g : Gathered = gather r.cache r.gathered (drop r.gathered (blocks_of spot)) in read-shares g.waits w d spot a g r
-call-shares w x r (Write to_out a n) = write-shares w x r to_out a n
-call-shares w x r (Exit code) = refl
+call-shares w x r c = own_call-by w r (λ next. next.shared ≡ r.shared) x c (λ b. refl) (λ taken whole b h. refl)
 
 module _ (J : Memory → Type 0) (R : Type 0) (w : World) (x : Answer) (q : State) (t : Tally) (before : Memory) where
   abbrev the_key : ℕ
@@ -502,39 +480,20 @@ module _ (J : Memory → Type 0) (R : Type 0) (w : World) (q : State) (before : 
 
 -- ---- the moves behind a gate
 
--- one move more
-run_from-snoc : (w : World) (r : Run) (ms : Moves) (m : Move × Answer) → run_from w r (ms ++ m ∷ []) ≡ step w (run_from w r ms) m
-unfolding run_from
-run_from-snoc w r [] m = refl
-run_from-snoc w r (n ∷ ms) m = run_from-snoc w (step w r n) ms m
-
--- no move
-nothing-on : (w : World) (r : Run) → run_from w r [] ≡ r
-unfolding run_from
-nothing-on w r = refl
-
 module _ (w : World) (gate : Run) where
+  -- a move at one place of a list is at it in a longer one
+  moves-more : (before rest on : Moves) (n m : Move × Answer) → on ≡ before ++ n ∷ rest → on ++ m ∷ [] ≡ before ++ n ∷ (rest ++ m ∷ [])
+  moves-more before rest on n m e = ap (λ ms. ms ++ m ∷ []) e ∙ append_assoc before (n ∷ rest) (m ∷ [])
+
   judged-more : (on : Moves) (m : Move × Answer) (log : Memory) → IsJudged w gate on log → IsJudged w gate (on ++ m ∷ []) log
   judged-more on m log j =
-      record {
-        before = j.before;
-        answer = j.answer;
-        behind = j.behind ++ m ∷ [];
-        moves = ap (λ ms. ms ++ m ∷ []) j.moves ∙ append_assoc j.before ((O, j.answer) ∷ j.behind) (m ∷ []);
-        word = j.word;
-        found = j.found;
-      }
+      let longer = moves-more j.before j.behind on (O, j.answer) m j.moves in
+      record { before = j.before; answer = j.answer; behind = j.behind ++ m ∷ []; moves = longer; word = j.word; found = j.found }
 
   restarted-more : (on : Moves) (m : Move × Answer) → IsRestarted w gate on → IsRestarted w gate (on ++ m ∷ [])
   restarted-more on m j =
-      record {
-        before = j.before;
-        answer = j.answer;
-        behind = j.behind ++ m ∷ [];
-        moves = ap (λ ms. ms ++ m ∷ []) j.moves ∙ append_assoc j.before ((O, j.answer) ∷ j.behind) (m ∷ []);
-        word = j.word;
-        undone = j.undone;
-      }
+      let longer = moves-more j.before j.behind on (O, j.answer) m j.moves in
+      record { before = j.before; answer = j.answer; behind = j.behind ++ m ∷ []; moves = longer; word = j.word; undone = j.undone }
 
   module _ (q : State) (fits : (i : ℕ) → q.registers i < 2 ^ 64) (place : q.pc < 2 ^ 64) (small_key : key_of (plan w q) < 2 ^ 64) (before : Memory) (order : log_head before ≤ log_tail before) (restarts : ℕ) where
     abbrev At : Moves → Run → Type 0
@@ -559,27 +518,16 @@ module _ (w : World) (gate : Run) where
         subst (λ all. At all (run_from w (step w r m) ms)) (append_assoc on (m ∷ []) ms)
         (run-passes then ms (step w r m) (run_from-snoc w gate on m ∙ ap (λ (r : Run). step w r m) e) one p.2)
       where
+        last : (m : Move × Answer) → m.0 ≡ O → on ++ m ∷ [] ≡ on ++ (O, m.1) ∷ []
+        last m is = ap (λ (n : Move). on ++ (n, m.1) ∷ []) is
+
         judge : (m : Move × Answer) → m.0 ≡ O → r.own.pc ≡ judging_word → IsJudged w gate (on ++ m ∷ []) r.shared
         judge m is at =
-            record {
-              before = on;
-              answer = m.1;
-              behind = [];
-              moves = ap (λ (n : Move). on ++ (n, m.1) ∷ []) is;
-              word = ap (λ (r : Run). r.own.pc) e ∙ at;
-              found = ap (λ (r : Run). r.shared) e;
-            }
+            record { before = on; answer = m.1; behind = []; moves = last m is; word = ap (λ (r : Run). r.own.pc) e ∙ at; found = ap (λ (r : Run). r.shared) e }
 
         restart : (m : Move × Answer) → m.0 ≡ O → r.own.pc ≡ restart_word → r.own_done ≡ gate.own_done → IsRestarted w gate (on ++ m ∷ [])
         restart m is at undone =
-            record {
-              before = on;
-              answer = m.1;
-              behind = [];
-              moves = ap (λ (n : Move). on ++ (n, m.1) ∷ []) is;
-              word = ap (λ (r : Run). r.own.pc) e ∙ at;
-              undone = ap (λ (r : Run). r.own_done) e ∙ undone;
-            }
+            record { before = on; answer = m.1; behind = []; moves = last m is; word = ap (λ (r : Run). r.own.pc) e ∙ at; undone = ap (λ (r : Run). r.own_done) e ∙ undone }
 
 -- behind a gate the call is in passage
 passes_on : (w : World) → Accepted w → (ms : Moves) (x : Answer) (on : Moves) → let program = run w ms in let gate = step w program (O, x) in
@@ -596,7 +544,7 @@ passes_on w a ms x on p log passing =
     at_word y.tally fresh 1 _ _ _ y.page r1 (Appends-same gate.shared below') refl
     (record { done = sym (ap (λ p. p.tally.done) y.side); restarts = sym (ap (λ p. p.tally.restarts) y.side); asked = y.asked })
     (y.side ∙ ap (λ rs. stub_side q y.tally 1 rs y.page) (sym (three-own q.registers))) in
-    run-passes w gate q y.fits y.place y.key gate.shared order' gate.restarts [] on gate (nothing-on w gate) start passing
+    run-passes w gate q y.fits y.place y.key gate.shared order' gate.restarts [] on gate (run_from-nil w gate) start passing
 
 -- each own move behind it leaves what is shared, takes the oldest pair, or finds the shadow stopped
 pub stub_takes_oldest : StubTakesOldest
@@ -613,11 +561,6 @@ stub_keeps_log w a ms x on p log passing leaving =
     let y : Entered w program gate = step-enters w a x program program.end refl (own_side w a ms) p (passing-view w on gate passing) in
     let q : State = program.own in
     let order' : log_head gate.shared ≤ log_tail gate.shared = subst (λ m. log_head m ≤ log_tail m) (sym y.shared) log.order in
-    let below' : log_tail gate.shared < 2 ^ 64 = subst (λ m. log_tail m < 2 ^ 64) (sym y.shared) log.below in
-    let start : Passage w (IsJudged w gate []) (IsRestarted w gate []) q (key_of (plan w q)) (q.registers 12) gate.shared gate.own_done gate.restarts gate =
-    at_word y.tally fresh 1 _ _ _ y.page r1 (Appends-same gate.shared below') refl
-    (record { done = sym (ap (λ p. p.tally.done) y.side); restarts = sym (ap (λ p. p.tally.restarts) y.side); asked = y.asked })
-    (y.side ∙ ap (λ rs. stub_side q y.tally 1 rs y.page) (sym (three-own q.registers))) in
     passage-ends w (IsJudged w gate on) (IsRestarted w gate on) q y.fits y.place y.key gate.shared order' gate.own_done gate.restarts gate (run_from w gate on) on (ap (λ p. p.gate) y.side) refl refl refl
     (λ log j. j) (λ z. z)
-    (run-passes w gate q y.fits y.place y.key gate.shared order' gate.restarts [] on gate (nothing-on w gate) start passing) leaving
+    (passes_on w a ms x on p log passing) leaving

@@ -13,6 +13,7 @@ use Rattle.own_laws.proofs.OwnSide.{OwnSide, in_program, in_stub, at_call, waits
 use Rattle.own_laws.proofs.Reached.{none_some, false_true}
 use Rattle.own_laws.proofs.Side.{side_of}
 use Rattle.own_laws.proofs.StubWords.{three}
+use Rattle.own_laws.proofs.MoveLists.{run_from-append}
 
 -- n instructions are done and at most k own moves are left, or more are done, or the run is over
 data AtMost (n k : ℕ) (r : Run) : Type 0 where
@@ -182,18 +183,12 @@ module _ (w : World) (accepted : Accepted w) where
       by_end (Some e) p = inl (ap is_some p)
       by_end None p = absurd (omega (arith, l, rank-positive r i.side (i.demand p) p))
 
-  -- two lists of moves one after the other
-  run_from-append : (a b : Moves) (r : Run) → run_from w r (a ++ b) ≡ run_from w (run_from w r a) b
-  unfolding run_from
-  run_from-append [] b r = refl
-  run_from-append (m ∷ a) b r = run_from-append a b (step w r m)
-
   -- k stretches use up k own moves
   finish : (k : ℕ) (ms : Moves) (r : Run) (n : ℕ) → Keeps r → AtMost n k r → Stretches k ms → Done n (run_from w r ms)
   finish zero ms r n i h s = nothing_left _ n (all_keeps ms r i) (run-most ms r n 0 i h)
   finish (suc k) ms r n i h (first, rest, e, own, fetch, s) =
       subst (λ ms. Done n (run_from w r ms)) (sym e)
-      (subst (λ z. Done n z) (sym (run_from-append first rest r))
+      (subst (λ z. Done n z) (sym (run_from-append w r first rest))
       (finish k rest (run_from w r first) n (all_keeps first r i) (stretch first r n k i h (inl own) (inl fetch)) s))
 
   -- a + b stretches are a and then b
@@ -235,7 +230,7 @@ module _ (w : World) (accepted : Accepted w) where
       let z = split 200 (200 * q) ms (subst (λ n. Stretches n ms) e s) in
       let mid : Run = run_from w r z.0 in
       let k : Keeps mid = all_keeps z.0 r i in
-      subst (λ (n : Run). On (suc q) r n) (sym (ap (run_from w r) z.2 ∙ run_from-append z.0 z.1 r))
+      subst (λ (n : Run). On (suc q) r n) (sym (ap (run_from w r) z.2 ∙ run_from-append w r z.0 z.1))
       (by_done z.1 mid k (one_on z.0 r i z.3) (gets_on q z.1 mid k z.4))
     where
       by_done : (rest : Moves) (mid : Run) → Keeps mid → Done r.own_done mid → On q mid (run_from w mid rest) → On (suc q) r (run_from w mid rest)

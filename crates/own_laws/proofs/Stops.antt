@@ -6,17 +6,16 @@ use Rattle.spec_base.specs.declared.note.Move.{Move}
 use Rattle.spec_base.specs.declared.note.Move.TheVariants.{O, S, T, D}
 use Rattle.spec_base.specs.declared.park.Park.{Park}
 use Rattle.spec_base.specs.declared.spot.ReadSpot.{ReadSpot}
-use Rattle.spec_base.specs.declared.machine.View.TheVariants.{Shadow}
 use Rattle.rv_decode.specs.declared.instr.Instr.{Instr}
 use Rattle.rv_decode.specs.declared.instr.Instr.TheVariants.{Hkey, Hcall, Hpark}
-use Rattle.rv_model.specs.Rights.{in_private, shadow_rights}
-use Rattle.rv_model.specs.Effect.{Effect, Next, Stored, Trapped, Called, Gated, effect}
-use Rattle.rv_model.specs.Space.{shadow_sees}
+use Rattle.rv_model.specs.Rights.{in_private}
+use Rattle.rv_model.specs.Effect.{Effect, Next, Stored, Trapped, Called, Gated}
 use Rattle.program_model.specs.Calls.{CallPlan, Set, Look, Read, Write, Exit}
-use Rattle.run_model.specs.Run.{World, Run, RunEnd, Answer, Usual, Took, Failed, Lost, rewritten_words}
-use Rattle.run_model.specs.ShadowMoves.{shadow_in, shadow_step, shadow_at_word, shadow_after, shadow_gate, shadow_stores, assumed, look_assumed, hint_given, fill_if, is_filled, arrived_if, fetch_shadow, is_running, is_arrival, shadow_plan}
+use Rattle.run_model.specs.Run.{World, Run, RunEnd, Answer, Usual, Took, Failed, Lost}
+use Rattle.run_model.specs.ShadowMoves.{shadow_in, shadow_at_word, shadow_after, shadow_gate, shadow_stores, assumed, look_assumed, hint_given, fill_if, is_filled, arrived_if, fetch_shadow, is_running, is_arrival, shadow_plan}
 use Rattle.run_model.specs.Moves.{step, step_unless, begun, shadow_while}
 use Rattle.run_laws.specs.OwnLaws.{IsShadowMove}
+use Rattle.own_laws.proofs.InvisibleShadow.{shadow_effect}
 
 -- the shadow's state is as it was, or parked
 data GoesOn (old new : ShadowState) : Type 0 where
@@ -39,7 +38,7 @@ hint-state : (unhinted : Bool) (spot : ReadSpot) (r : Run) → (hint_given unhin
 hint-state true spot r = refl
 hint-state false spot r = refl
 
-fill-state : (b : Bool) (w : World) (spot : ReadSpot) (a : ℕ) (r : Run) → (fill_if b w spot a r).shadow.state ≡ r.shadow.state
+pub fill-state : (b : Bool) (w : World) (spot : ReadSpot) (a : ℕ) (r : Run) → (fill_if b w spot a r).shadow.state ≡ r.shadow.state
 fill-state true w spot a r = refl
 fill-state false w spot a r = refl
 
@@ -85,7 +84,7 @@ arrived-goes b r next (parks cause e) = parks cause (arrived-state b next ∙ e)
 word-goes : (w : World) (x : Answer) (r : Run) (o : Option Instr) → Goes r (shadow_at_word w x r o)
 word-goes w x r None = parks _ refl
 word-goes w x r (Some i) =
-    let e : Effect = effect Shadow (shadow_rights w.image.layout) (shadow_sees w.image.layout (rewritten_words w) r.own.memory r.shared r.shadow_page) r.shadow.registers r.shadow.pc i in
+    let e : Effect = shadow_effect w r i in
     let next : Run = shadow_after w x r e in
     arrived-goes (is_running next.shadow.state && is_arrival w.image.layout next.shadow.pc) r next (after-goes w x r e)
 

@@ -1,6 +1,5 @@
 -- No word of the stub traps, and a run that ends in the stub ends at its call.
-use Rattle.std.proofs.Common.{◌≡◌, ℕ, ◌+◌, ◌*◌, ◌<◌, ◌⊎◌, inl, inr, Bool, true, false, List, [], ◌∷◌, Option, Some, None, drop, refl, ◌∙◌, ap, sym, subst, arith, is_some}
-use Rattle.std.specs.Prelude.{⊤}
+use Rattle.std.proofs.Common.{◌≡◌, ℕ, ◌+◌, ◌*◌, ◌<◌, Bool, true, false, List, [], ◌∷◌, Option, Some, None, drop, refl, ◌∙◌, ap, sym, subst, arith, is_some}
 use Rattle.spec_base.specs.Layout.{stub_start}
 use Rattle.spec_base.specs.declared.machine.View.TheVariants.{Program, Stub}
 use Rattle.spec_base.specs.declared.note.Move.{Move}
@@ -12,9 +11,7 @@ use Rattle.spec_base.specs.declared.spot.ReadSpot.{ReadSpot}
 use Rattle.rv_decode.specs.declared.instr.Instr.{Instr}
 use Rattle.rv_decode.specs.declared.instr.Instr.TheVariants.{Hleave, Hcall}
 use Rattle.rv_model.specs.Memory.{Memory}
-use Rattle.rv_model.specs.Rights.{stub_rights}
-use Rattle.rv_model.specs.Effect.{Effect, Next, Stored, Trapped, Called, Gated, effect, fetched}
-use Rattle.rv_model.specs.Space.{stub_sees}
+use Rattle.rv_model.specs.Effect.{Effect, Next, Stored, Trapped, Called, Gated, fetched}
 use Rattle.program_model.specs.Calls.{CallPlan, Set, Look, Read, Write, Exit}
 use Rattle.program_model.specs.Cache.{Cache, Gathered, gather, blocks_of, in_flight}
 use Rattle.program_model.specs.PlainRun.{State}
@@ -25,7 +22,6 @@ use Rattle.run_model.specs.Moves.{Moves, step, step_unless, begun, run, run_from
 use Rattle.run_laws.specs.Completes.{StubGoesOn, goes_on, stores, asks, StubWordCompletes}
 use Rattle.run_laws.specs.OwnLaws.{Accepted}
 use Rattle.run_laws.specs.StubLaws.{StubWordsComplete, IsExitOrFault, EndsAtCall, StubEndsAtCall}
-use Rattle.own_laws.proofs.Demand.{Demand}
 use Rattle.own_laws.proofs.InvisibleShadow.{shadow_move-keeps}
 use Rattle.own_laws.proofs.OneCall.{program_stub}
 use Rattle.own_laws.proofs.OwnLaws.{own_side}
@@ -33,8 +29,8 @@ use Rattle.own_laws.proofs.OwnSide.{OwnSide, call-place, in_program, in_stub, at
 use Rattle.own_laws.proofs.Passage.{Entered, own-enters}
 use Rattle.own_laws.proofs.Progress.{Keeps, keeps, start-keeps}
 use Rattle.own_laws.proofs.Reached.{reached-fits, none_some, false_true}
-use Rattle.own_laws.proofs.Side.{Side, side_of, with_side, Tally, Kept}
-use Rattle.own_laws.proofs.StubRows.{Row, left, WordGoes, to_row, to_restarted, to_call, word_goes}
+use Rattle.own_laws.proofs.Side.{side_of, with_side, Tally, Kept}
+use Rattle.own_laws.proofs.StubRows.{left, WordGoes, to_row, to_restarted, to_call, word_goes}
 use Rattle.own_laws.proofs.StubWords.{stub_side}
 
 -- ---- where a word leads

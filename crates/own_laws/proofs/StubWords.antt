@@ -112,7 +112,7 @@ pub record InLog (c : ℕ) : Type 0 where
   pub is : c ≡ 0x4200_0000 + 16 * entry
 
 -- what stands behind a list is the next list's
-slice_get-append : {X : Type 0} (xs ys : List X) (n : ℕ) → slice_get (xs ++ ys) (length xs + n) ≡ slice_get ys n
+pub slice_get-append : {X : Type 0} (xs ys : List X) (n : ℕ) → slice_get (xs ++ ys) (length xs + n) ≡ slice_get ys n
 slice_get-append [] ys n = ap (slice_get ys) (zero-add n)
 slice_get-append (x ∷ xs) ys n = ap (slice_get (x ∷ (xs ++ ys))) (suc-add (length xs) n) ∙ slice_get-append xs ys n
 

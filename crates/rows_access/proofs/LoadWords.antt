@@ -16,13 +16,14 @@ use Rattle.code_model.specs.Places.{block_at}
 use Rattle.code_model.specs.Regions.{copy_place}
 use Rattle.side_model.specs.Hart.{Regs, get, put, Priv}
 use Rattle.code_model.specs.Tables.{Tabs, TableOk}
-use Rattle.side_model.specs.Places.{Width, W1, W2, W4, W8, width_of, Loading, LoadTail, offset_of, Place, InBlock, InHelper, code, HasBlock}
+use Rattle.side_model.specs.Places.{Width, W1, W2, W4, W8, width_of, Loading, LoadTail, offset_of, Place, InBlock, InHelper, code, HasBlock, IsInstruction}
 use Rattle.side_model.specs.Words.{Out, Goes, Loads, exec, exec_some}
 use Rattle.side_model.specs.Rows.{Led, on, leaps, arrives, takes_entry, takes_program, takes_copy}
 use Rattle.side_model.specs.JumpRows.{high_part, with_31, with_30_31}
+use Rattle.side_model.specs.Tables.{IsUnchanged}
 use Rattle.side_model.proofs.Numbers.{TextFits, text-fits}
 use Rattle.side_model.proofs.JumpWords.{forks}
-use Rattle.rows_access.specs.Accesses.{load_size, may_access, place_of, seen, IsInstruction, Allows, saved, Unchanged, AccessFaults}
+use Rattle.rows_access.specs.Accesses.{load_size, may_access, place_of, seen, Allows, saved, AccessFaults}
 use Rattle.rows_access.specs.CheckRows.{c1}
 use Rattle.rows_access.specs.LoadRows.{LoadRow, b1, b2, b3, b4, b5, b6, b7, b8, b9, t1, t2, t3, t4, t5, t6, t7, t8, t9, t10, t11, t12, t13, t14, t15, LoadsRow, LoadArrives, LoadLeads, LoadStarts}
 use Rattle.rows_access.proofs.Reach.{Reached, reached, some-width}
@@ -67,13 +68,13 @@ module _ (l : Layout) (p : ℕ) (op : LoadOp) (rd rs1 : ℕ) (imm : ℤ) (q : Re
 
   -- a word with n words left, from these tables and this memory
   abbrev led : Tabs → Memory → ℕ → Out → Type 0
-  led t m n o = Led l program base (λ place rs s t' m' k. row place rs s t' k × Unchanged t m t' m')
-      (λ target rs t' m'. LoadArrives l p op rd rs1 imm q given target rs × Unchanged t m t' m') (λ cause t' m'. AccessFaults l size at cause × Unchanged t m t' m') n o
+  led t m n o = Led l program base (λ place rs s t' m' k. row place rs s t' k × IsUnchanged t m t' m')
+      (λ target rs t' m'. LoadArrives l p op rd rs1 imm q given target rs × IsUnchanged t m t' m') (λ cause t' m'. AccessFaults l size at cause × IsUnchanged t m t' m') n o
 
   abbrev leads : ℕ → Place → Regs → Priv → Tabs → Memory → Type 0
   leads n place rs s t m = led t m n (exec_some base (code l (block l p (Load op rd rs1 imm)) place) (record { place = place; regs = rs; priv = s; tabs = t }) m)
 
-  same : {t : Tabs} {m : Memory} → Unchanged t m t m
+  same : {t : Tabs} {m : Memory} → IsUnchanged t m t m
   same = record { tables = refl; memory = refl }
 
   text : TextFits l
@@ -134,7 +135,7 @@ module _ (l : Layout) (p : ℕ) (op : LoadOp) (rd rs1 : ℕ) (imm : ℤ) (q : Re
       → led t m 2 (exec base (load_restore b) (record { place = InBlock 8; regs = put rd (extended op v) (with_31 q place); priv = saved at back q s; tabs = t }) m)
   restores place v s t m ok f g true e =
       let is : rd ≡ 31 = grind (arith, nat_tests) in
-      subst (λ (r : ℕ). Led l program base (λ place rs s t' m' k. LoadsRow l p op r rs1 imm q given place rs s t' k × Unchanged t m t' m') (λ target rs t' m'. LoadArrives l p op r rs1 imm q given target rs × Unchanged t m t' m') (λ cause t' m'. AccessFaults l size at cause × Unchanged t m t' m') 2
+      subst (λ (r : ℕ). Led l program base (λ place rs s t' m' k. LoadsRow l p op r rs1 imm q given place rs s t' k × IsUnchanged t m t' m') (λ target rs t' m'. LoadArrives l p op r rs1 imm q given target rs × IsUnchanged t m t' m') (λ cause t' m'. AccessFaults l size at cause × IsUnchanged t m t' m') 2
       (Goes (record { place = InBlock 9; regs = put r (extended op v) (with_31 q place); priv = saved at back q s; tabs = t }) m)) (sym is) (on (inr (b9 v s f g), same) ok refl refl)
   restores place v s t m ok f g false e =
       subst (λ (b : Bool). led t m 2 (Goes (record { place = InBlock 9; regs = record (put rd (extended op v) q) { x31 = cond b (extended op v) q.x31 }; priv = saved at back q s; tabs = t }) m)) e (on (inr (b9 v s f g), same) ok refl refl)
@@ -175,8 +176,8 @@ module _ (l : Layout) (p : ℕ) (op : LoadOp) (rd rs1 : ℕ) (imm : ℤ) (q : Re
       → row place rs s t n → leads n place rs s t m
   all-words {t} m ok g (inl r) =
       check-words l size (Loading size) LoadTail at back q base (block l p (Load op rd rs1 imm)) program text (checks l size)
-      (λ place rs s t' m' k. row place rs s t' k × Unchanged t m t' m') (λ target rs t' m'. LoadArrives l p op rd rs1 imm q given target rs × Unchanged t m t' m') (λ cause t' m'. AccessFaults l size at cause × Unchanged t m t' m')
-      (λ t' m'. Unchanged t m t' m') (λ place rs s t' m' k r u. (inl r, u)) 19 refl (λ u s t' m' f v. (inr (t1 s f), v)) (λ t' m' f u. (record { fault = refl; trap = f }, u)) m ok same r
+      (λ place rs s t' m' k. row place rs s t' k × IsUnchanged t m t' m') (λ target rs t' m'. LoadArrives l p op rd rs1 imm q given target rs × IsUnchanged t m t' m') (λ cause t' m'. AccessFaults l size at cause × IsUnchanged t m t' m')
+      (λ t' m'. IsUnchanged t m t' m') (λ place rs s t' m' k r u. (inl r, u)) 19 refl (λ u s t' m' f v. (inr (t1 s f), v)) (λ t' m' f u. (record { fault = refl; trap = f }, u)) m ok same r
   all-words m ok g (inr r) = load-words m ok g r
 
 pub load_leads : LoadLeads

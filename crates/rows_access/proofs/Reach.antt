@@ -1,6 +1,6 @@
 -- When an access to the program's memory traps: by its address, and by the bytes that it has.
-use Rattle.std.proofs.Common.{◌≡◌, ℕ, zero, suc, ◌+◌, ◌-◌, ◌/◌, ◌%◌, ◌^◌, ◌<◌, ◌≤◌, ◌⊎◌, inl, inr, Bool, true, false, ◌&&◌, ◌==◌, refl, ◌∙◌, ap, sym, subst, arith, eq-eqb, nat_lt, nat_le, bit_and, ◌*◌}
-use Rattle.std.proofs.lemmas.Bool.{and_from}
+use Rattle.std.proofs.Common.{◌≡◌, ℕ, ◌+◌, ◌-◌, ◌/◌, ◌%◌, ◌^◌, ◌<◌, ◌≤◌, ◌⊎◌, inl, inr, Bool, true, false, ◌&&◌, ◌==◌, refl, ◌∙◌, ap, sym, subst, arith, eq-eqb, nat_lt, nat_le, bit_and, ◌*◌}
+use Rattle.std.proofs.lemmas.Bool.{and_from, and_left, and_right}
 use Rattle.std.proofs.lemmas.Bool.Decides.{nat_tests}
 use Rattle.std.proofs.lemmas.Nat.{and_mask}
 use Rattle.spec_base.specs.Layout.{range_start, range_end}
@@ -9,19 +9,14 @@ use Rattle.spec_base.specs.declared.layout.Version.TheVariants.{One, Two}
 use Rattle.spec_base.specs.declared.layout.Layout.{Layout}
 use Rattle.rv_model.specs.Memory.{all_from}
 use Rattle.rv_model.specs.Rights.{is_data}
+use Rattle.rv_model.proofs.DataLemmas.{all_from-fails, all_from-holds, all_from-inside}
 use Rattle.side_model.specs.Places.{Width, W1, W2, W4, W8, width_of, reaching}
 use Rattle.code_model.specs.Tables.{all_regions}
 use Rattle.side_model.proofs.Numbers.{TextFits}
+use Rattle.side_model.proofs.Views.{range-most}
 use Rattle.rows_access.specs.Accesses.{may_access}
 
 -- ---- tests over a stretch
-
-right-false : (b c : Bool) → c ≡ false → (b && c) ≡ false
-right-false true c e = e
-right-false false c e = refl
-
-left-false : (b c : Bool) → b ≡ false → (b && c) ≡ false
-left-false b c e = rw e refl
 
 both-true : (b c : Bool) → (b && c) ≡ true → (b ≡ true) × (c ≡ true)
 both-true true c e = (refl, e)
@@ -30,38 +25,7 @@ both-true false c e = (e, absurd (no e))
     no : false ≡ true → ⊥
     no e = cc
 
--- a test that fails at one address of a stretch fails for it
-fails-at : (test : ℕ → Bool) (a n x : ℕ) → a ≤ x → x < a + n → test x ≡ false → all_from test a n ≡ false
-unfolding all_from
-fails-at test a zero x l h e = absurd (omega arith)
-fails-at test a (suc n) x l h e = by_test (x == a) refl (λ k. fails-at test (a + 1) n x k (omega arith) e)
-  where
-    by_test : (b : Bool) → (x == a) ≡ b → (a + 1 ≤ x → all_from test (a + 1) n ≡ false) → (test a && all_from test (a + 1) n) ≡ false
-    by_test true d rest = let k : x ≡ a = grind (arith, nat_tests) in left-false (test a) _ (subst (λ (y : ℕ). test y ≡ false) k e)
-    by_test false d rest = let k : a + 1 ≤ x = grind (arith, nat_tests) in right-false (test a) _ (rest k)
-
--- a test that holds at each address of a stretch holds for it
-holds-from : (test : ℕ → Bool) (a n : ℕ) → ((x : ℕ) → a ≤ x → x < a + n → test x ≡ true) → all_from test a n ≡ true
-unfolding all_from
-holds-from test a zero h = refl
-holds-from test a (suc n) h = and_from (test a) _ (h a (omega arith) (omega arith)) (holds-from test (a + 1) n (λ x l k. h x (omega arith) (omega arith)))
-
--- a test that holds for a stretch holds at each address of it
-holds-at : (test : ℕ → Bool) (a n x : ℕ) → all_from test a n ≡ true → a ≤ x → x < a + n → test x ≡ true
-holds-at test a n x h l k = by_test (test x) refl
-  where
-    by_test : (b : Bool) → test x ≡ b → test x ≡ true
-    by_test true e = e
-    by_test false e = absurd (no (sym (fails-at test a n x l k e) ∙ h))
-      where
-        no : false ≡ true → ⊥
-        no e = cc
-
 -- ---- data, byte by byte
-
-range-most : (v : Version) → range_end v ≤ 0x4000_0000
-range-most One = omega arith
-range-most Two = omega arith
 
 range-whole : (v : Version) → range_end v % 256 ≡ 0
 range-whole One = refl
@@ -117,10 +81,10 @@ module _ (l : Layout) (f : TextFits l) (w : Width) (a : ℕ) where
 
   -- the first byte of an access
   first-fails : is_data l a ≡ false → may_access l w a ≡ false
-  first-fails e = right-false (a % width_of w == 0) _ (fails-at (is_data l) a (width_of w) a (omega arith) (omega (arith, some-width w)) e)
+  first-fails e = and_right (a % width_of w == 0) _ (all_from-fails (is_data l) a (width_of w) a (omega arith) (omega (arith, some-width w)) e)
 
   pub no-whole : (odds == 0) ≡ false → may_access l w a ≡ false
-  no-whole e = left-false (a % width_of w == 0) _ (subst (λ (o : ℕ). (o == 0) ≡ false) odds-are e)
+  no-whole e = and_left (a % width_of w == 0) _ (subst (λ (o : ℕ). (o == 0) ≡ false) odds-are e)
 
   pub no-low : nat_lt a range_start ≡ true → may_access l w a ≡ false
   no-low e = first-fails (no-data-below l a (grind (arith, nat_tests)))
@@ -136,17 +100,17 @@ module _ (l : Layout) (f : TextFits l) (w : Width) (a : ℕ) where
       below = grind (arith, nat_tests)
 
       by_width : (w : Width) → nat_lt a (reaching l w) ≡ false → may_access l w a ≡ false
-      by_width W1 e = right-false (a % 1 == 0) _ (fails-at (is_data l) a 1 a (omega arith) (omega arith) (no-data-text l a (grind (arith, nat_tests)) below))
-      by_width W2 e = right-false (a % 2 == 0) _ (fails-at (is_data l) a 2 a (omega arith) (omega arith) (no-data-text l a (grind (arith, nat_tests)) below))
-      by_width W4 e = right-false (a % 4 == 0) _ (fails-at (is_data l) a 4 a (omega arith) (omega arith) (no-data-text l a (grind (arith, nat_tests)) below))
-      by_width W8 e = right-false (a % 8 == 0) _ (by_test (nat_lt a l.text_start) refl)
+      by_width W1 e = and_right (a % 1 == 0) _ (all_from-fails (is_data l) a 1 a (omega arith) (omega arith) (no-data-text l a (grind (arith, nat_tests)) below))
+      by_width W2 e = and_right (a % 2 == 0) _ (all_from-fails (is_data l) a 2 a (omega arith) (omega arith) (no-data-text l a (grind (arith, nat_tests)) below))
+      by_width W4 e = and_right (a % 4 == 0) _ (all_from-fails (is_data l) a 4 a (omega arith) (omega arith) (no-data-text l a (grind (arith, nat_tests)) below))
+      by_width W8 e = and_right (a % 8 == 0) _ (by_test (nat_lt a l.text_start) refl)
         where
           by_test : (b : Bool) → nat_lt a l.text_start ≡ b → all_from (is_data l) a 8 ≡ false
           by_test true d =
               let above : l.text_start ≤ a + 4 = grind (arith, nat_tests) in
               let before : a < l.text_start = grind (arith, nat_tests) in
-              fails-at (is_data l) a 8 (a + 4) (omega arith) (omega arith) (no-data-text l (a + 4) above (omega (arith, f.start, f.end, f.some)))
-          by_test false d = fails-at (is_data l) a 8 a (omega arith) (omega arith) (no-data-text l a (grind (arith, nat_tests)) below)
+              all_from-fails (is_data l) a 8 (a + 4) (omega arith) (omega arith) (no-data-text l (a + 4) above (omega (arith, f.start, f.end, f.some)))
+          by_test false d = all_from-fails (is_data l) a 8 a (omega arith) (omega arith) (no-data-text l a (grind (arith, nat_tests)) below)
 
   -- each of its bytes is in the range
   in-range : (w : Width) → a % width_of w ≡ 0 → a < range_end l.version → a + width_of w ≤ range_end l.version
@@ -175,7 +139,7 @@ module _ (l : Layout) (f : TextFits l) (w : Width) (a : ℕ) where
     each : ((x : ℕ) → a ≤ x → x < a + width_of w → (x < l.text_start) ⊎ (l.text_end ≤ x)) → may_access l w a ≡ true
     each outside =
         and_from _ _ (eq-eqb (a % width_of w) 0 multiple)
-        (holds-from (is_data l) a (width_of w) (λ x h k. data-is l x (omega (arith, start)) (omega (arith, in-range w multiple end)) (outside x h k)))
+        (all_from-holds (is_data l) a (width_of w) (λ x h k. data-is l x (omega (arith, start)) (omega (arith, in-range w multiple end)) (outside x h k)))
 
     pub may-low : nat_lt a (reaching l w) ≡ true → may_access l w a ≡ true
     may-low e = each (λ x h k. inl (omega (arith, before-text w multiple e)))
@@ -195,8 +159,8 @@ pub reached : (l : Layout) (w : Width) (a : ℕ) → may_access l w a ≡ true �
 reached l w a h =
     let parts = both-true (a % width_of w == 0) _ h in
     let some : 0 < width_of w = some-width w in
-    let first : is_data l a ≡ true = holds-at (is_data l) a (width_of w) a parts.1 (omega arith) (omega arith) in
-    let last : is_data l (a + (width_of w - 1)) ≡ true = holds-at (is_data l) a (width_of w) (a + (width_of w - 1)) parts.1 (omega arith) (omega arith) in
+    let first : is_data l a ≡ true = all_from-inside (is_data l) (width_of w) a parts.1 a (omega arith) (omega arith) in
+    let last : is_data l (a + (width_of w - 1)) ≡ true = all_from-inside (is_data l) (width_of w) a parts.1 (a + (width_of w - 1)) (omega arith) (omega arith) in
     let end : a + (width_of w - 1) < range_end l.version = data-below l (a + (width_of w - 1)) last in
     record {
       whole = let t : (a % width_of w == 0) ≡ true = parts.0 in grind (arith, nat_tests);

@@ -2,6 +2,7 @@
 use Rattle.std.proofs.Common.{◌≡◌, ℕ, ◌+◌, ◌-◌, ◌*◌, ◌/◌, ◌%◌, ◌^◌, ◌<◌, ◌≤◌, inl, inr, Bool, true, false, not, ◌==◌, ℤ, pos, negsuc, List, ◌++◌, refl, ◌∙◌, ap, sym, subst, arith, cond, nat_lt, nat_le, bit_and, Option, Some}
 use Rattle.std.proofs.lemmas.Bool.Decides.{nat_tests}
 use Rattle.std.proofs.lemmas.Nat.Bits.{and_high_mask}
+use Rattle.std.proofs.lemmas.Bool.{lt-ltb}
 use Rattle.spec_base.specs.Word.{wrap, plus_int, byte_of}
 use Rattle.spec_base.specs.Layout.{helpers_start, list_start, copies_start, range_start, range_end}
 use Rattle.spec_base.specs.declared.layout.Layout.{Layout}
@@ -20,13 +21,13 @@ use Rattle.code_model.specs.Regions.{entry_address, listed_address, slot_address
 use Rattle.side_model.specs.Hart.{Regs, get, Priv}
 use Rattle.code_model.specs.Tables.{Tabs, TableOk, all_regions}
 use Rattle.side_model.specs.Tables.{with_value}
-use Rattle.side_model.specs.Places.{Width, W1, W2, W4, W8, width_of, Storing, StoreTail, FullUp, offset_of, Place, InBlock, InHelper, Away, code, is_inner, HasBlock}
+use Rattle.side_model.specs.Places.{Width, W1, W2, W4, W8, width_of, Storing, StoreTail, FullUp, offset_of, Place, InBlock, InHelper, Away, code, is_inner, HasBlock, IsInstruction}
 use Rattle.side_model.specs.Words.{Out, Goes, Loads, Stores, exec_some}
 use Rattle.side_model.specs.Rows.{Led, on, leaps, arrives, takes_entry, takes_count, takes_program, puts_entry, puts_count, puts_listed, puts_copy, parks}
 use Rattle.side_model.specs.JumpRows.{high_part, with_31, with_30_31}
 use Rattle.side_model.proofs.Numbers.{hi_lo, TextFits, text-fits}
 use Rattle.side_model.proofs.JumpWords.{forks}
-use Rattle.rows_access.specs.Accesses.{store_size, may_access, IsInstruction, Allows, saved, Leaves}
+use Rattle.rows_access.specs.Accesses.{store_size, may_access, Allows, saved, Leaves}
 use Rattle.rows_access.specs.CheckRows.{c1}
 use Rattle.rows_access.specs.StoreRows.{with_28_31, Stage, Before, After, Free, IsRound, AreBytes, Counted, IsEntry, StoreRow, b1, b2, b3, b4, b5, b6, b7, b8, b9, x7, x8, x9, x10, full, t1, t2, t3, t4, t5, t6, t7, t8, t9, t10, t11, t12, t13, t14, t15, t16, t17, t18, t19, t20, t21, t22, t23, t24, t25, t26, t27, t28, t29, t30, t31, t32, t33, t34, t35, t36, t37, t38, t39, t40, t41, t42, t43, t44, t45, t46, Viewed, HasBytes, AtStage, StoresRow, StoreArrives, StoreParks, faults, full_up, StoreLeads, StoreStarts, with_stored, with_named, with_counted, with_slot, Settled}
 use Rattle.rows_access.proofs.Reach.{Reached, reached, some-width, RegionIn, region-in}
@@ -55,10 +56,6 @@ checks l w = record { words = refl; before = by_width w; behind = omega arith; n
 -- all bits but the lowest 8
 and_high : (n : ℕ) → n < 2 ^ 64 → bit_and n (2 ^ 64 - 256) ≡ 256 * (n / 256)
 and_high n h = let e : bit_and n (2 ^ 64 - 256) ≡ n / 256 * 256 = and_high_mask 64 8 (omega arith) n h in omega (arith, e)
-
--- fewer words are left
-fewer : (k n : ℕ) → k < n → nat_lt k n ≡ true
-fewer k n h = grind (arith, nat_tests)
 
 module _ (l : Layout) (p : ℕ) (op : StoreOp) (rs1 rs2 : ℕ) (imm : ℤ) (q : Regs) (bytes : ℕ → Option ℕ) (program : Memory) (t0 : Tabs) (is : IsInstruction l p)
     (small : (a v : ℕ) → bytes a ≡ Some v → (x : ℕ) → range_start ≤ x → x < range_end l.version → program x < 256) where
@@ -200,7 +197,7 @@ module _ (l : Layout) (p : ℕ) (op : StoreOp) (rs1 rs2 : ℕ) (imm : ℤ) (q : 
       subst (λ (x : ℕ). led t m (26 + 5 * (32 - k))
       (Loads Ld 28 x (record { place = InHelper StoreTail 21; regs = with_28_31 q a (slot_address t.count + 256) from to; priv = record (saved at back q s) { x29 = q.x29; x28 = q.x28; ent = spot }; tabs = t }) m)) e
       (takes_program (omega (arith, r.source)) (omega (arith, r.source, i.above)) (omega (arith, r.source, r.low, i.below))
-      (on (inr (_, t22 k s f g r (taken l program bytes small t m region k from r.low r.source i.above i.below g.none v), (v, h, o)), left) ok (fewer _ _ (omega arith)) refl))
+      (on (inr (_, t22 k s f g r (taken l program bytes small t m region k from r.low r.source i.above i.below g.none v), (v, h, o)), left) ok (lt-ltb _ _ (omega arith)) refl))
 
   -- word 22: they are put into the slot
   t22-stores : (a from to k : ℕ) (s : Priv) (t : Tabs) (m : Memory) → TableOk l t → may_access l size at ≡ true → free t → round t k k k from to → AreBytes l p op rs1 rs2 imm q bytes a k → viewed t m → has_bytes (8 * k) t.count m → t ≡ t0
@@ -222,7 +219,7 @@ module _ (l : Layout) (p : ℕ) (op : StoreOp) (rs1 rs2 : ℕ) (imm : ℤ) (q : 
           ),
         ),
         record { below = λ x d. patch-outside m to 8 (byte_of a) x (inl (omega (arith, r.target, d))); copies = λ x d. refl },
-      ) ok (fewer _ _ (omega arith)) refl))
+      ) ok (lt-ltb _ _ (omega arith)) refl))
 
   -- word 25: the next round, or the list
   t25-goes : (a from to k : ℕ) (s : Priv) (t : Tabs) (m : Memory) → TableOk l t → may_access l size at ≡ true → free t → round t k (k + 1) (k + 1) from to → viewed t m → has_bytes (8 * (k + 1)) t.count m → t ≡ t0
@@ -232,10 +229,10 @@ module _ (l : Layout) (p : ℕ) (op : StoreOp) (rs1 rs2 : ℕ) (imm : ℤ) (q : 
       forks (nat_lt to (slot_address t.count + 256))
       (λ e.
       let more : k + 1 < 32 = let d : to < slot_address t.count + 256 = grind (arith, nat_tests) in omega (arith, r.target, d) in
-      leaps (InHelper StoreTail 20) refl (on (inr (_, t21 (k + 1) s f g (record { low = more; source = r.source; target = r.target }), (v, h, o)), left) ok (fewer _ _ (omega (arith, more))) refl))
+      leaps (InHelper StoreTail 20) refl (on (inr (_, t21 (k + 1) s f g (record { low = more; source = r.source; target = r.target }), (v, h, o)), left) ok (lt-ltb _ _ (omega (arith, more))) refl))
       (λ e.
       let all : 8 * (k + 1) ≡ 256 = let d : slot_address t.count + 256 ≤ to = grind (arith, nat_tests) in omega (arith, r.target, r.low, d) in
-      on (inr (_, t26 s f g, (v, subst (λ (n : ℕ). has_bytes n t.count m) all h, o)), left) ok (fewer _ _ (omega (arith, r.low))) refl)
+      on (inr (_, t26 s f g, (v, subst (λ (n : ℕ). has_bytes n t.count m) all h, o)), left) ok (lt-ltb _ _ (omega (arith, r.low))) refl)
 
   -- ---- list, count and entry
 
@@ -427,9 +424,9 @@ module _ (l : Layout) (p : ℕ) (op : StoreOp) (rs1 rs2 : ℕ) (imm : ℤ) (q : 
   store-words m ok (t21 k s {t} f g r) v = t21-loads _ _ _ k s t m ok f g r v.0 v.1 v.2
   store-words m ok (t22 k s {t} f g r new) v = t22-stores _ _ _ k s t m ok f g r new v.0 v.1 v.2
   store-words m ok (t23 k s f g r) v =
-      on (inr (_, t24 k s f g (record { low = r.low; source = omega (arith, r.source, r.low, below f); target = r.target }), v), left) ok (fewer _ _ (omega arith)) refl
+      on (inr (_, t24 k s f g (record { low = r.low; source = omega (arith, r.source, r.low, below f); target = r.target }), v), left) ok (lt-ltb _ _ (omega arith)) refl
   store-words m ok (t24 k s {t} f g r) v =
-      on (inr (_, t25 k s f g (record { low = r.low; source = r.source; target = omega (arith, r.target, r.low, under t g) }), v), left) ok (fewer _ _ (omega arith)) refl
+      on (inr (_, t25 k s f g (record { low = r.low; source = r.source; target = omega (arith, r.target, r.low, under t g) }), v), left) ok (lt-ltb _ _ (omega arith)) refl
   store-words m ok (t25 k s {t} f g r) v = t25-goes _ _ _ k s t m ok f g r v.0 v.1 v.2
   store-words m ok (t26 s f g) v = on (inr (_, t27 s f g, v), left) ok refl refl
   store-words m ok (t27 s f g) v = takes_count refl (on (inr (_, t28 s f g, v), left) ok refl refl)

@@ -1,6 +1,6 @@
 -- What the words of loads and stores have in common: the address, whether the program may access it, and its place in the shadow's memory (this project's own).
-use Rattle.std.specs.Prelude.{ℕ, ◌/◌, ◌%◌, ◌≡◌, ◌≤◌, ◌<◌, Bool, false, ◌&&◌, cond, ◌==◌, Option, Some, None, IsTrue}
-use Rattle.spec_base.specs.Layout.{is_lawful, table_start}
+use Rattle.std.specs.Prelude.{ℕ, ◌/◌, ◌%◌, ◌≡◌, ◌<◌, Bool, false, ◌&&◌, cond, ◌==◌, Option, Some, None}
+use Rattle.spec_base.specs.Layout.{table_start}
 use Rattle.spec_base.specs.declared.layout.Layout.{Layout}
 use Rattle.spec_base.specs.declared.park.Park.{Park}
 use Rattle.spec_base.specs.declared.park.Park.TheVariants as park
@@ -48,13 +48,6 @@ place_of entry a = cond (entry == 0) a (copy_place entry a)
 abbrev pub seen : Tabs → Memory → Memory → Memory
 seen t shared program a = byte_by_entry (t.entry (a / 256)) shared program a
 
--- what is so of an instruction's address
-pub record IsInstruction (l : Layout) (p : ℕ) : Type 0 where
-  pub lawful : IsTrue (is_lawful l)
-  pub above : l.text_start ≤ p
-  pub below : p < l.text_end
-  pub whole : p % 4 ≡ 0
-
 -- ---- numbers that are known
 
 -- a number that is known, or any
@@ -83,11 +76,6 @@ module _ (at back : ℕ) (q : Regs) where
   saved p = record p { x31 = q.x31; x30 = q.x30; adr = at; ret = back }
 
 -- ---- what words leave
-
--- a word that changes neither the tables nor the memory
-pub record Unchanged (t : Tabs) (m : Memory) (t' : Tabs) (m' : Memory) : Type 0 where
-  pub tables : t' ≡ t
-  pub memory : m' ≡ m
 
 -- a word that leaves all below the table, and the entry of each region that has a copy
 pub record Leaves (t : Tabs) (m : Memory) (t' : Tabs) (m' : Memory) : Type 0 where

@@ -16,11 +16,12 @@ use Rattle.code_model.specs.Places.{block_at}
 use Rattle.code_model.specs.Regions.{entry_address}
 use Rattle.side_model.specs.Hart.{Regs, get, put, Priv}
 use Rattle.code_model.specs.Tables.{Tabs, TableOk}
-use Rattle.side_model.specs.Places.{Width, Loading, LoadTail, Place, InBlock, InHelper, code}
+use Rattle.side_model.specs.Places.{Width, Loading, LoadTail, Place, InBlock, InHelper, code, IsInstruction}
 use Rattle.side_model.specs.Words.{exec_some}
 use Rattle.side_model.specs.Rows.{Led}
 use Rattle.side_model.specs.JumpRows.{high_part, with_31, with_30_31}
-use Rattle.rows_access.specs.Accesses.{load_size, may_access, place_of, seen, IsInstruction, Allows, spilled, asked, saved, Unchanged, AccessFaults}
+use Rattle.side_model.specs.Tables.{IsUnchanged}
+use Rattle.rows_access.specs.Accesses.{load_size, may_access, place_of, seen, Allows, spilled, asked, saved, AccessFaults}
 use Rattle.rows_access.specs.CheckRows.{CheckRow}
 
 -- the load at p of the program, with the program's registers q; `given` is the number that it loads, where that is known
@@ -89,8 +90,8 @@ LoadLeads =
     → (n : ℕ) (place : Place) (rs : Regs) (s : Priv) (t : Tabs) (m : Memory) → TableOk l t
     → (place ≡ InBlock 7 → Allows given (loaded (seen t m program) (plus_int (get rs1 q) imm) (load_width op)))
     → LoadsRow l p op rd rs1 imm q given place rs s t n
-    → Led l program (block_at l p) (λ place rs s t' m' k. LoadsRow l p op rd rs1 imm q given place rs s t' k × Unchanged t m t' m')
-    (λ target rs t' m'. LoadArrives l p op rd rs1 imm q given target rs × Unchanged t m t' m') (λ cause t' m'. AccessFaults l (load_size op) (plus_int (get rs1 q) imm) cause × Unchanged t m t' m') n
+    → Led l program (block_at l p) (λ place rs s t' m' k. LoadsRow l p op rd rs1 imm q given place rs s t' k × IsUnchanged t m t' m')
+    (λ target rs t' m'. LoadArrives l p op rd rs1 imm q given target rs × IsUnchanged t m t' m') (λ cause t' m'. AccessFaults l (load_size op) (plus_int (get rs1 q) imm) cause × IsUnchanged t m t' m') n
     (exec_some (block_at l p) (code l (block l p (Load op rd rs1 imm)) place) (record { place = place; regs = rs; priv = s; tabs = t }) m)
 
 -- the program may access the address just where its load doesn't trap

@@ -18,11 +18,11 @@ use Rattle.code_model.specs.Regions.{entry_address, slot_address, copy_place}
 use Rattle.side_model.specs.Hart.{Regs, get, Priv}
 use Rattle.code_model.specs.Tables.{Tabs, TableOk}
 use Rattle.side_model.specs.Tables.{with_value}
-use Rattle.side_model.specs.Places.{Width, Storing, StoreTail, FullUp, Place, InBlock, InHelper, code}
+use Rattle.side_model.specs.Places.{Width, Storing, StoreTail, FullUp, Place, InBlock, InHelper, code, IsInstruction}
 use Rattle.side_model.specs.Words.{exec_some}
 use Rattle.side_model.specs.Rows.{Led}
 use Rattle.side_model.specs.JumpRows.{high_part, with_31, with_30_31}
-use Rattle.rows_access.specs.Accesses.{store_size, may_access, seen, IsInstruction, Allows, spilled, asked, saved, Leaves}
+use Rattle.rows_access.specs.Accesses.{store_size, may_access, seen, Allows, spilled, asked, saved, Leaves}
 use Rattle.rows_access.specs.CheckRows.{CheckRow}
 
 -- registers with another x28 to x31

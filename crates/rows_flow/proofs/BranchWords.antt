@@ -14,12 +14,12 @@ use Rattle.code_model.specs.Blocks.{block, is_target, taken_word}
 use Rattle.code_model.specs.Places.{block_at}
 use Rattle.side_model.specs.Hart.{Regs, Priv}
 use Rattle.code_model.specs.Tables.{Tabs, TableOk}
-use Rattle.side_model.specs.Places.{Place, InBlock, code, HasBlock}
+use Rattle.side_model.specs.Places.{Place, InBlock, code, HasBlock, IsInstruction}
 use Rattle.side_model.specs.Words.{Out, exec, exec_some}
 use Rattle.side_model.specs.Rows.{on, leaps, arrives, parks}
 use Rattle.side_model.specs.Sees.{HasRegs}
 use Rattle.side_model.proofs.JumpWords.{forks}
-use Rattle.rows_flow.specs.Following.{IsInstruction, GoesOn, GoesOut, Follows}
+use Rattle.rows_flow.specs.Following.{GoesOn, GoesOut, Follows}
 use Rattle.rows_flow.specs.BranchRows.{taken, BranchRow, b1, b2, b3, BranchLeads, BranchStarts}
 use Rattle.rows_flow.proofs.Building.{same, onto_next, next_block, next_pc, by_diff}
 use Rattle.rows_flow.proofs.Targets.{target-in_text, jumps_whole, jumps_out, target_block, block_most, block_whole}

@@ -12,16 +12,17 @@ use Rattle.code_model.specs.Assembly.{diff, lo}
 use Rattle.code_model.specs.Places.{block_at}
 use Rattle.side_model.specs.Hart.{Regs, get, put}
 use Rattle.code_model.specs.Tables.{Tabs}
-use Rattle.side_model.specs.Places.{HasBlock}
+use Rattle.side_model.specs.Places.{HasBlock, IsInstruction}
 use Rattle.side_model.specs.JumpRows.{high_part}
 use Rattle.side_model.specs.Sees.{HasRegs}
+use Rattle.side_model.specs.Tables.{IsUnchanged}
 use Rattle.side_model.proofs.Registers.{put_put, get_put, put_zero, HasRegs-put}
 use Rattle.side_model.proofs.Numbers.{TextFits, text-fits, hi_lo}
-use Rattle.rows_flow.specs.Following.{IsInstruction, Unchanged, GoesOn}
+use Rattle.rows_flow.specs.Following.{GoesOn}
 use Rattle.rows_flow.specs.PlainRows.{quarter_of}
 
 -- a word that changes nothing
-pub same : {t : Tabs} {m : Memory} → Unchanged t m t m
+pub same : {t : Tabs} {m : Memory} → IsUnchanged t m t m
 same = record { tables = refl; memory = refl }
 
 -- ---- the next instruction

@@ -1,36 +1,29 @@
 -- One word of the shadow in a run: where it jumps by register to the pad of another block, the run shows that place of that block.
-use Rattle.std.proofs.Common.{◌≡◌, ℕ, ◌%◌, ◌^◌, ◌<◌, ◌≤◌, ◌⊎◌, inl, inr, Bool, true, false, ◌&&◌, ℤ, List, Some, refl, ◌∙◌, ap, sym, subst, arith, eq-eqb}
+use Rattle.std.proofs.Common.{◌≡◌, ℕ, ◌%◌, ◌^◌, ◌<◌, ◌≤◌, ◌⊎◌, inl, inr, Bool, ℤ, List, Some, refl, ◌∙◌, ap, sym, subst, arith, eq-eqb}
 use Rattle.std.proofs.lemmas.Bool.Decides.{nat_tests}
 use Rattle.spec_base.specs.Word.{plus_int}
 use Rattle.spec_base.specs.declared.layout.Layout.{Layout}
 use Rattle.spec_base.specs.declared.spot.ReadSpot.{ReadSpot}
-use Rattle.spec_base.specs.declared.machine.View.TheVariants.{Shadow}
 use Rattle.rv_decode.specs.declared.instr.Instr.{Instr}
 use Rattle.rv_decode.specs.declared.instr.Instr.TheVariants.{Jalr}
-use Rattle.rv_model.specs.Rights.{shadow_rights}
 use Rattle.rv_model.specs.Registers.{reg}
-use Rattle.rv_model.specs.Effect.{effect, even, jump_if, jumps_to}
-use Rattle.rv_model.specs.Space.{program_byte, shadow_sees}
+use Rattle.rv_model.specs.Effect.{even, jump_if, jumps_to}
+use Rattle.rv_model.specs.Space.{program_byte}
 use Rattle.program_model.specs.Calls.{Read, key_of}
 use Rattle.code_model.specs.Places.{block_at}
 use Rattle.run_model.specs.Run.{World, Run, Answer, rewritten_words}
-use Rattle.run_model.specs.ShadowMoves.{shadow_step, shadow_in, shadow_after, shadow_at_word, arrived_if, word_counted, is_running, is_arrival, fetch_shadow, shadow_plan, fill, hint_given}
+use Rattle.run_model.specs.ShadowMoves.{shadow_step, shadow_after, fetch_shadow, shadow_plan, fill, hint_given}
 use Rattle.side_model.specs.Hart.{Regs, get, Priv}
 use Rattle.code_model.specs.Tables.{Tabs, TableOk}
-use Rattle.side_model.specs.Tables.{HasTabs}
+use Rattle.side_model.specs.Tables.{HasTabs, IsUnchanged}
 use Rattle.side_model.specs.Places.{Place, InBlock, code, address}
 use Rattle.side_model.specs.Words.{Point}
 use Rattle.side_model.specs.Sees.{Shade, shade_of, Sees, Landed, goes_on}
 use Rattle.side_model.proofs.Fetching.{CodeAt, Fetches, code-fetches}
-use Rattle.side_model.proofs.Stepping.{step-lands}
-use Rattle.rows_flow.specs.Following.{Unchanged, FlowArrives, FlowFaults}
+use Rattle.side_model.proofs.Stepping.{step-lands, shade-step}
+use Rattle.rows_flow.specs.Following.{FlowArrives, FlowFaults}
 use Rattle.rows_flow.specs.JalRows.{Crosses, stays, crosses}
 use Rattle.rows_flow.proofs.Building.{same}
-
--- an arrival counts, and so does a word, but the shadow's part is left
-counted-shade : (b : Bool) (r : Run) → shade_of (word_counted (arrived_if b r)) ≡ shade_of r
-counted-shade true r = refl
-counted-shade false r = refl
 
 module _ (w : World) (x : Answer) (base other : ℕ) (words : List Instr) (whole : other % 4 ≡ 0) (at : CodeAt w base words) (r : Run) (s : Point)
     (here : Sees w.image.layout base (shade_of r) s r.shared) (register : ℕ) (offset : ℤ)
@@ -49,11 +42,8 @@ module _ (w : World) (x : Answer) (base other : ℕ) (words : List Instr) (whole
   pub crossing-shows : shown (shade_of (shadow_step w x r))
   crossing-shows =
       let f : Fetches w (address base s.place) (Jalr 0 register offset) = code-fetches w base words s.place (Jalr 0 register offset) at word in
-      let next : Run = shadow_after w x r (effect Shadow (shadow_rights w.image.layout) (shadow_sees w.image.layout (rewritten_words w) r.own.memory r.shared r.shadow_page) r.shadow.registers r.shadow.pc (Jalr 0 register offset)) in
-      subst (λ z. shown (shade_of (shadow_in z w x r))) (sym here.running)
-      (subst (λ o. shown (shade_of (word_counted (shadow_at_word w x r o)))) (sym (ap (fetch_shadow w) here.pc ∙ f.word))
-      (subst shown (sym (counted-shade (is_running next.shadow.state && is_arrival w.image.layout next.shadow.pc) next))
-      (jumped (even (plus_int (reg r.shadow.registers register) offset)) (ap (λ (v : ℕ). even (plus_int v offset)) (here.regs.at register) ∙ to))))
+      subst shown (sym (shade-step w x r (Jalr 0 register offset) here.running (ap (fetch_shadow w) here.pc ∙ f.word)))
+      (jumped (even (plus_int (reg r.shadow.registers register) offset)) (ap (λ (v : ℕ). even (plus_int v offset)) (here.regs.at register) ∙ to))
 
 -- ---- a word of a block that may go on in another one
 
@@ -68,8 +58,8 @@ module _ (w : World) (x : Answer) (p : ℕ) (i : Instr) (q : Regs) (base target 
   -- where the run lands, by the rows of the block at a base
   abbrev lands : ℕ → (Place → Regs → Priv → Tabs → ℕ → Type 0) → Shade → Type 0
   lands at rows h =
-      Landed l at (λ place rs s' t' m' k. rows place rs s' t' k × Unchanged s.tabs r.shared t' m') (λ to rs t' m'. FlowArrives l p i q to rs × Unchanged s.tabs r.shared t' m')
-      (λ cause t' m'. FlowFaults l p i q cause × Unchanged s.tabs r.shared t' m') n h
+      Landed l at (λ place rs s' t' m' k. rows place rs s' t' k × IsUnchanged s.tabs r.shared t' m') (λ to rs t' m'. FlowArrives l p i q to rs × IsUnchanged s.tabs r.shared t' m')
+      (λ cause t' m'. FlowFaults l p i q cause × IsUnchanged s.tabs r.shared t' m') n h
 
   -- in this block, or at the pad of the target's
   pub crossing-lands : TableOk l s.tabs

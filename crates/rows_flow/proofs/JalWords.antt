@@ -15,14 +15,14 @@ use Rattle.code_model.specs.Blocks.{is_target, jal_if, with_pad}
 use Rattle.code_model.specs.Places.{block_at}
 use Rattle.side_model.specs.Hart.{Regs, Priv}
 use Rattle.code_model.specs.Tables.{Tabs, TableOk}
-use Rattle.side_model.specs.Places.{Place, InBlock, code, HasBlock}
+use Rattle.side_model.specs.Places.{Place, InBlock, code, HasBlock, IsInstruction}
 use Rattle.side_model.specs.Words.{exec_some}
 use Rattle.side_model.specs.Rows.{on, arrives, parks}
 use Rattle.side_model.specs.JumpRows.{high_part}
 use Rattle.side_model.specs.Sees.{HasRegs}
 use Rattle.side_model.proofs.Numbers.{TextFits, text-fits, hi_lo}
 use Rattle.side_model.proofs.Registers.{HasRegs-put}
-use Rattle.rows_flow.specs.Following.{IsInstruction, GoesOn, GoesOut, Follows}
+use Rattle.rows_flow.specs.Following.{GoesOn, GoesOut, Follows}
 use Rattle.rows_flow.specs.JalRows.{linked, JalRow, k1, k2, k3, k4, k5, PadRow, pad, Crosses, stays, crosses, JalLeads, PadLeads, JalStarts}
 use Rattle.rows_flow.proofs.Building.{same, next_pc, built}
 use Rattle.rows_flow.proofs.Targets.{target-in_text, jumps_whole, jumps_out, target_block, block_most, block_whole}

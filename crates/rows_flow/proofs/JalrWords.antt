@@ -16,7 +16,7 @@ use Rattle.code_model.specs.Blocks.{block, link_spill}
 use Rattle.code_model.specs.Places.{block_at}
 use Rattle.side_model.specs.Hart.{Regs, get, put, Priv}
 use Rattle.code_model.specs.Tables.{Tabs, TableOk}
-use Rattle.side_model.specs.Places.{Jumping, Place, InBlock, InHelper, code, HasBlock}
+use Rattle.side_model.specs.Places.{Jumping, Place, InBlock, InHelper, code, HasBlock, IsInstruction}
 use Rattle.side_model.specs.Words.{Point, Out, Goes, Parks, exec, exec_some}
 use Rattle.side_model.specs.Rows.{Led, on, leaps, arrives, parks}
 use Rattle.side_model.specs.JumpRows.{goal, high_part, with_31, JumpRow, j1, j2, j3, j4, j5, j6, j7, j8, j9, j10, j11, j12, j13, j14, j15, j16, lands, faults, JumpArrives, JumpFaults, JumpFits}
@@ -24,7 +24,7 @@ use Rattle.side_model.specs.Sees.{HasRegs}
 use Rattle.side_model.proofs.JumpWords.{jump_leads}
 use Rattle.side_model.proofs.Numbers.{TextFits, text-fits, hi_lo}
 use Rattle.side_model.proofs.Registers.{HasRegs-put}
-use Rattle.rows_flow.specs.Following.{IsInstruction, GoesOn, FlowArrives, FlowFaults, Follows}
+use Rattle.rows_flow.specs.Following.{GoesOn, FlowArrives, FlowFaults, Follows}
 use Rattle.rows_flow.specs.JalrRows.{asked, JalrRow, r1, r2, r3, r4, r5, r6, r7, r8, JalrsRow, JalrLeads, JumpFollows, JalrStarts}
 use Rattle.rows_flow.proofs.Building.{same, next_pc, built}
 use Rattle.rows_flow.proofs.Targets.{target-in_text, jumps_whole, jumps_out, block_whole}

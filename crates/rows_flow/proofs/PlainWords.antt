@@ -19,11 +19,11 @@ use Rattle.code_model.specs.Blocks.{block}
 use Rattle.code_model.specs.Places.{block_at}
 use Rattle.side_model.specs.Hart.{Regs, get, Priv}
 use Rattle.code_model.specs.Tables.{Tabs, TableOk}
-use Rattle.side_model.specs.Places.{Place, code}
+use Rattle.side_model.specs.Places.{Place, code, IsInstruction}
 use Rattle.side_model.specs.Words.{exec_some}
 use Rattle.side_model.specs.Rows.{on, arrives, parks}
 use Rattle.side_model.specs.Sees.{HasRegs}
-use Rattle.rows_flow.specs.Following.{IsInstruction, GoesOn, GoesOut, traps, IsTrap, jumps, FlowArrives, Follows}
+use Rattle.rows_flow.specs.Following.{GoesOn, GoesOut, traps, IsTrap, jumps, FlowArrives, Follows}
 use Rattle.rows_flow.specs.PlainRows.{Computes, a_lui, an_imm, an_imm_w, an_op, an_op_w, a_fence, computed, quarter_of, PlainRow, w1, w2, PlainLeads, PlainStarts, AuipcRow, u1, u2, u3, u4, AuipcLeads, AuipcStarts, Stops, at_ebreak, at_gate, at_leave, at_site, at_key, at_stop, at_restart, at_call, at_halt, at_illegal, h1, ParkLeads, ParkStarts, GuardLeads}
 use Rattle.rows_flow.proofs.Building.{same, onto_next, next_block, next_pc, steps, built, shifted, quarter}
 

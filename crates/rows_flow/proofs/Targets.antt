@@ -10,10 +10,10 @@ use Rattle.rv_model.specs.Effect.{jump_if, jumps_to}
 use Rattle.code_model.specs.Blocks.{is_target}
 use Rattle.code_model.specs.Places.{block_at}
 use Rattle.side_model.specs.Hart.{Regs}
-use Rattle.side_model.specs.Places.{HasBlock}
+use Rattle.side_model.specs.Places.{HasBlock, IsInstruction}
 use Rattle.side_model.specs.Sees.{HasRegs}
 use Rattle.side_model.proofs.Numbers.{TextFits, text-fits, IsInText, target-inside}
-use Rattle.rows_flow.specs.Following.{IsInstruction, GoesOn, GoesOut, traps, leaves}
+use Rattle.rows_flow.specs.Following.{GoesOn, GoesOut, traps, leaves}
 
 -- the program jumps to a multiple of 4
 pub jumps_whole : (target : ℕ) (rs : Registers) (q : Regs) → HasRegs rs q → target % 4 ≡ 0 → GoesOn (jumps_to rs target) target q

@@ -9,9 +9,9 @@ use Rattle.code_model.specs.Blocks.{block}
 use Rattle.code_model.specs.Places.{block_at}
 use Rattle.side_model.specs.Hart.{Regs, get, Priv}
 use Rattle.code_model.specs.Tables.{Tabs, TableOk}
-use Rattle.side_model.specs.Places.{Place, InBlock, code}
+use Rattle.side_model.specs.Places.{Place, InBlock, code, IsInstruction}
 use Rattle.side_model.specs.Words.{exec_some}
-use Rattle.rows_flow.specs.Following.{IsInstruction, Follows}
+use Rattle.rows_flow.specs.Following.{Follows}
 
 module _ (op : BranchOp) (rs1 rs2 : ℕ) (q : Regs) where
   -- whether the program's branch is taken

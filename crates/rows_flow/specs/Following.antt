@@ -1,6 +1,5 @@
 -- How the block of an instruction follows the program: it arrives where the instruction goes on, with the registers that it gives, or parks where it can't go on (this project's own).
-use Rattle.std.specs.Prelude.{ℕ, ◌%◌, ◌≡◌, ◌≤◌, ◌<◌, Bool, true, false, IsTrue}
-use Rattle.spec_base.specs.Layout.{is_lawful}
+use Rattle.std.specs.Prelude.{ℕ, ◌≡◌, Bool, true, false}
 use Rattle.spec_base.specs.declared.layout.Layout.{Layout}
 use Rattle.spec_base.specs.declared.machine.Trap.{Trap}
 use Rattle.spec_base.specs.declared.machine.View.TheVariants.{Plain}
@@ -19,18 +18,7 @@ use Rattle.side_model.specs.Places.{Place}
 use Rattle.side_model.specs.Words.{Out}
 use Rattle.side_model.specs.Rows.{Led}
 use Rattle.side_model.specs.Sees.{HasRegs}
-
--- an instruction of the program stands at p
-pub record IsInstruction (l : Layout) (p : ℕ) : Type 0 where
-  pub lawful : IsTrue (is_lawful l)
-  pub above : l.text_start ≤ p
-  pub below : p < l.text_end
-  pub whole : p % 4 ≡ 0
-
--- a word leaves the tables and the memory
-pub record Unchanged (t : Tabs) (m : Memory) (t' : Tabs) (m' : Memory) : Type 0 where
-  pub tables : t' ≡ t
-  pub memory : m' ≡ m
+use Rattle.side_model.specs.Tables.{IsUnchanged}
 
 -- ---- what an instruction does
 
@@ -73,5 +61,5 @@ pub record FlowFaults (l : Layout) (p : ℕ) (i : Instr) (q : Regs) (cause : Par
 -- a word with n words left leads to a row of the block, to an arrival or to a park, and leaves the tables t and the memory m
 abbrev pub Follows : Layout → Memory → ℕ → Instr → Regs → ℕ → (Place → Regs → Priv → Tabs → ℕ → Type 0) → Tabs → Memory → ℕ → Out → Type 0
 Follows l program p i q base Row t m n =
-    Led l program base (λ place rs s t' m' k. Row place rs s t' k × Unchanged t m t' m') (λ target rs t' m'. FlowArrives l p i q target rs × Unchanged t m t' m')
-    (λ cause t' m'. FlowFaults l p i q cause × Unchanged t m t' m') n
+    Led l program base (λ place rs s t' m' k. Row place rs s t' k × IsUnchanged t m t' m') (λ target rs t' m'. FlowArrives l p i q target rs × IsUnchanged t m t' m')
+    (λ cause t' m'. FlowFaults l p i q cause × IsUnchanged t m t' m') n

@@ -11,10 +11,10 @@ use Rattle.code_model.specs.Blocks.{block, is_target}
 use Rattle.code_model.specs.Places.{block_at}
 use Rattle.side_model.specs.Hart.{Regs, get, put, Priv}
 use Rattle.code_model.specs.Tables.{Tabs, TableOk}
-use Rattle.side_model.specs.Places.{Place, InBlock, code}
+use Rattle.side_model.specs.Places.{Place, InBlock, code, IsInstruction}
 use Rattle.side_model.specs.Words.{exec_some}
 use Rattle.side_model.specs.JumpRows.{high_part, with_31}
-use Rattle.rows_flow.specs.Following.{IsInstruction, Follows}
+use Rattle.rows_flow.specs.Following.{Follows}
 
 -- jal at p to target
 module _ (l : Layout) (p rd target : ℕ) (q : Regs) where

@@ -10,10 +10,10 @@ use Rattle.code_model.specs.Blocks.{block}
 use Rattle.code_model.specs.Places.{block_at, JUMP}
 use Rattle.side_model.specs.Hart.{Regs, get, put, Priv}
 use Rattle.code_model.specs.Tables.{Tabs, TableOk}
-use Rattle.side_model.specs.Places.{Jumping, Place, InBlock, InHelper, code}
+use Rattle.side_model.specs.Places.{Jumping, Place, InBlock, InHelper, code, IsInstruction}
 use Rattle.side_model.specs.Words.{exec_some}
 use Rattle.side_model.specs.JumpRows.{high_part, with_31, JumpRow, JumpFits}
-use Rattle.rows_flow.specs.Following.{IsInstruction, Follows}
+use Rattle.rows_flow.specs.Following.{Follows}
 
 -- jalr at p
 module _ (l : Layout) (p rd rs1 : ℕ) (imm : ℤ) (q : Regs) where

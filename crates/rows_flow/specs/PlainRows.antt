@@ -19,11 +19,12 @@ use Rattle.code_model.specs.Blocks.{block, guard_block}
 use Rattle.code_model.specs.Places.{block_at}
 use Rattle.side_model.specs.Hart.{Regs, get, put, Priv}
 use Rattle.code_model.specs.Tables.{Tabs, TableOk}
-use Rattle.side_model.specs.Places.{Place, InBlock, code}
+use Rattle.side_model.specs.Places.{Place, InBlock, code, IsInstruction}
 use Rattle.side_model.specs.Words.{exec_some}
 use Rattle.side_model.specs.Rows.{Led}
 use Rattle.side_model.specs.JumpRows.{high_part}
-use Rattle.rows_flow.specs.Following.{IsInstruction, Unchanged, Follows}
+use Rattle.side_model.specs.Tables.{IsUnchanged}
+use Rattle.rows_flow.specs.Following.{Follows}
 
 -- ---- instructions that only compute: two words
 
@@ -139,6 +140,6 @@ abbrev pub GuardLeads : Type 0
 GuardLeads =
     (l : Layout) (q : Regs) (program : Memory)
     → (n : ℕ) (place : Place) (rs : Regs) (s : Priv) (t : Tabs) (m : Memory) → TableOk l t → ParkRow q place rs s t n
-    → Led l program (block_at l l.text_end) (λ place rs s t' m' k. ParkRow q place rs s t' k × Unchanged t m t' m') (λ target rs t' m'. ⊥)
-    (λ cause t' m'. GuardFaults l cause × Unchanged t m t' m') n
+    → Led l program (block_at l l.text_end) (λ place rs s t' m' k. ParkRow q place rs s t' k × IsUnchanged t m t' m') (λ target rs t' m'. ⊥)
+    (λ cause t' m'. GuardFaults l cause × IsUnchanged t m t' m') n
     (exec_some (block_at l l.text_end) (code l guard_block place) (record { place = place; regs = rs; priv = s; tabs = t }) m)

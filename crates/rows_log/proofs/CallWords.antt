@@ -15,13 +15,13 @@ use Rattle.code_model.specs.Log.{log_head, log_tail, log_place, logged}
 use Rattle.code_model.specs.Places.{block_at}
 use Rattle.side_model.specs.Hart.{Regs, get, Priv}
 use Rattle.code_model.specs.Tables.{Tabs, TableOk}
-use Rattle.side_model.specs.Places.{Appending, LogFullUp, Place, InBlock, InHelper, code}
+use Rattle.side_model.specs.Places.{Appending, LogFullUp, Place, InBlock, InHelper, code, IsInstruction}
 use Rattle.side_model.specs.Words.{Out, exec_some}
 use Rattle.side_model.specs.Rows.{Led, on, leaps, arrives, takes_link, puts_link, keys, calls, parks}
 use Rattle.side_model.proofs.Numbers.{TextFits, text-fits}
 use Rattle.side_model.proofs.JumpWords.{forks}
 use Rattle.rows_log.specs.Queue.{HasRoom, leaves, puts_key, puts_count, raises_tail, Takes}
-use Rattle.rows_log.specs.CallRows.{IsSite, Stage, Before, Headed, Room, HasKey, HasPair, Appended, AtStage, Settled, keyless, keyed, pair_place, CallRow, b1, b2, b3, b4, b5, b6, a1, a2, a3, a4, a5, a6, a7, a8, a9, a10, a11, a12, a13, a14, a15, a16, a17, a18, a19, a20, a21, a22, a23, a24, full, before_key, keeps_key, finds_key, is_headed, HeadStep, finds_head, keeps_head, no_head, CallNext, word, call, LogIsFull, CallStarts, CallLeads, StagesStay, CalledArrives}
+use Rattle.rows_log.specs.CallRows.{Stage, Before, Headed, Room, HasKey, HasPair, Appended, AtStage, Settled, keyless, keyed, pair_place, CallRow, b1, b2, b3, b4, b5, b6, a1, a2, a3, a4, a5, a6, a7, a8, a9, a10, a11, a12, a13, a14, a15, a16, a17, a18, a19, a20, a21, a22, a23, a24, full, before_key, keeps_key, finds_key, is_headed, HeadStep, finds_head, keeps_head, no_head, CallNext, word, call, LogIsFull, CallStarts, CallLeads, StagesStay, CalledArrives}
 use Rattle.rows_log.proofs.QueueLaws.{tail-above, room-above, taking-keeps}
 
 -- ---- numbers
@@ -59,7 +59,7 @@ settled-unheaded (keyed e) = refl
 
 -- ---- words
 
-module _ (l : Layout) (p : ℕ) (q : Regs) (tail key : ℕ) (program : Memory) (is : IsSite l p) (key_small : key < 2 ^ 64) (count_small : get 12 q < 2 ^ 64) where
+module _ (l : Layout) (p : ℕ) (q : Regs) (tail key : ℕ) (program : Memory) (is : IsInstruction l p) (key_small : key < 2 ^ 64) (count_small : get 12 q < 2 ^ 64) where
   abbrev base : ℕ
   base = block_at l p
 

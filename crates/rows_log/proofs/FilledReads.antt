@@ -1,8 +1,9 @@
 -- A read that the shadow assumes: where it is filled each of its regions without a copy gets the next slot, and its bytes are set in the copies.
-use Rattle.std.proofs.Common.{◌≡◌, ◌≢◌, ℕ, zero, suc, ◌+◌, ◌-◌, ◌/◌, ◌<◌, ◌≤◌, Bool, true, false, ◌&&◌, ◌==◌, cond, List, [], ◌∷◌, length, take, drop, refl, ◌∙◌, ap, sym, subst, arith, IsTrue}
+use Rattle.std.proofs.Common.{◌≡◌, ◌≢◌, ℕ, zero, suc, ◌+◌, ◌-◌, ◌/◌, ◌<◌, ◌≤◌, Bool, true, false, ◌==◌, cond, List, [], ◌∷◌, length, take, drop, refl, ◌∙◌, ap, sym, subst, arith, IsTrue}
 use Rattle.std.specs.Prelude.{⊤, unwrap_or}
 use Rattle.std.proofs.lemmas.Bool.Decides.{nat_tests}
 use Rattle.std.proofs.lemmas.List.{length-take}
+use Rattle.std.proofs.lemmas.Bool.{and_parts}
 use Rattle.spec_base.specs.Layout.{is_lawful}
 use Rattle.spec_base.specs.declared.layout.Layout.{Layout}
 use Rattle.spec_base.specs.declared.spot.ReadSpot.{ReadSpot}
@@ -161,14 +162,7 @@ filled-fits w r spot a zero e = absurd (no e)
   where
     no : false ≡ true → ⊥
     no e = cc
-filled-fits w r spot a (suc n) e = record { n = n; is = refl; room = rest _ _ e }
-  where
-    rest : (b c : Bool) → (b && c) ≡ true → c ≡ true
-    rest true c h = h
-    rest false c h = absurd (no h)
-      where
-        no : false ≡ true → ⊥
-        no e = cc
+filled-fits w r spot a (suc n) e = record { n = n; is = refl; room = (and_parts _ _ e).1 }
 
 module _ (w : World) (r : Run) (t : Tabs) (spot : ReadSpot) (a : ℕ) (lawful : IsTrue (is_lawful w.image.layout)) (inside : all_from (is_data w.image.layout) a spot.count ≡ true)
     (has : HasTabs w.image.layout r.shared t) (ok : TableOk w.image.layout t) where

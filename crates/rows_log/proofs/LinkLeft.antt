@@ -1,5 +1,5 @@
 -- A word of the shadow that is no store through a register leaves the link, and most words are none.
-use Rattle.std.proofs.Common.{◌≡◌, ℕ, zero, suc, ◌%◌, Bool, true, false, not, ◌&&◌, ◌==◌, List, [], ◌∷◌, Option, Some, None, refl, ap, subst}
+use Rattle.std.proofs.Common.{◌≡◌, ℕ, zero, suc, ◌%◌, Bool, true, false, not, ◌&&◌, ◌==◌, List, [], ◌∷◌, Some, None, refl, ap, subst, sym}
 use Rattle.spec_base.specs.Word.{plus_int}
 use Rattle.spec_base.specs.declared.layout.Layout.{Layout}
 use Rattle.spec_base.specs.declared.machine.View.TheVariants.{Shadow}
@@ -13,14 +13,15 @@ use Rattle.rv_model.specs.Registers.{Registers, reg}
 use Rattle.rv_model.specs.Rights.{in_private, shadow_rights}
 use Rattle.rv_model.specs.Arithmetic.{store_width, is_taken}
 use Rattle.rv_model.specs.Effect.{Effect, effect, jump_if, branch_if, load_if, store_if}
-use Rattle.rv_model.specs.Space.{shadow_sees}
 use Rattle.code_model.specs.Blocks.{block, guard_block, with_pad, jal_if, taken_word, is_target, load_restore, link_spill}
-use Rattle.run_model.specs.Run.{World, Run, Answer, rewritten_words}
-use Rattle.run_model.specs.ShadowMoves.{shadow_in, shadow_after, shadow_at_word, shadow_stores, shadow_plan, fetch_shadow, arrived_if, word_counted, is_running, is_arrival}
+use Rattle.run_model.specs.Run.{World, Run, Answer}
+use Rattle.run_model.specs.ShadowMoves.{shadow_in, shadow_after, shadow_stores, shadow_plan, fetch_shadow}
 use Rattle.side_model.specs.Places.{Helper, Loading, Storing, Jumping, LoadTail, StoreTail, Appending, Restarting, Faulting, FullUp, LogFullUp, W1, W2, W4, W8, helper_words}
+use Rattle.side_model.specs.Sees.{Shade}
 use Rattle.rows_log.specs.Queue.{LeavesLink}
 use Rattle.rows_log.specs.LinkWords.{stores_out, NoneStores, is_store, has_stores, BlocksStoreNot, GuardStoresNot, HelpersStoreNot, WordsLeaveLink}
 use Rattle.rows_log.proofs.CallsLeave.{calls-leave_link}
+use Rattle.side_model.proofs.Stepping.{shade-step}
 
 -- ---- words
 
@@ -202,25 +203,14 @@ module _ (w : World) (x : Answer) (r : Run) where
     instr-leaves (Hpark cause) h = same
     instr-leaves Illegal h = same
 
-  -- an arrival is counted
-  counted : (b : Bool) (next : Run) → LeavesLink r.shared next.shared → LeavesLink r.shared (word_counted (arrived_if b next)).shared
-  counted true next h = h
-  counted false next h = h
-
-  -- the word at the pc
-  word-leaves : (o : Option Instr) (i : Instr) → o ≡ Some i → stores_out i ≡ false → LeavesLink r.shared (word_counted (shadow_at_word w x r o)).shared
-  word-leaves None i e h = same
-  word-leaves (Some j) i e h =
-      let is : i ≡ j = cc in
-      let next : Run = shadow_after w x r (effect Shadow (shadow_rights w.image.layout) (shadow_sees w.image.layout (rewritten_words w) r.own.memory r.shared r.shadow_page) r.shadow.registers r.shadow.pc j) in
-      counted (is_running next.shadow.state && is_arrival w.image.layout next.shadow.pc) next (instr-leaves _ _ _ j (subst (λ (i : Instr). stores_out i ≡ false) is h))
-
   -- in each state
-  state-leaves : (s : ShadowState) (i : Instr) → fetch_shadow w r.shadow.pc ≡ Some i → stores_out i ≡ false → LeavesLink r.shared (shadow_in s w x r).shared
-  state-leaves Running i e h = word-leaves (fetch_shadow w r.shadow.pc) i e h
-  state-leaves Never i e h = same
-  state-leaves Stopped i e h = same
-  state-leaves (Parked cause) i e h = same
+  state-leaves : (s : ShadowState) → r.shadow.state ≡ s → (i : Instr) → fetch_shadow w r.shadow.pc ≡ Some i → stores_out i ≡ false → LeavesLink r.shared (shadow_in s w x r).shared
+  state-leaves Running z i e h =
+      subst (λ (s : ShadowState). LeavesLink r.shared (shadow_in s w x r).shared) z
+      (subst (λ (y : Shade). LeavesLink r.shared y.shared) (sym (shade-step w x r i z e)) (instr-leaves _ _ _ i h))
+  state-leaves Never z i e h = same
+  state-leaves Stopped z i e h = same
+  state-leaves (Parked cause) z i e h = same
 
 pub words-leave_link : WordsLeaveLink
-words-leave_link w x r i e h = state-leaves w x r r.shadow.state i e h
+words-leave_link w x r i e h = state-leaves w x r r.shadow.state refl i e h

@@ -12,6 +12,7 @@ use Rattle.rv_model.specs.Memory.{Memory, all_from}
 use Rattle.rv_model.specs.Registers.{reg}
 use Rattle.rv_model.specs.Arithmetic.{signed}
 use Rattle.rv_model.specs.Rights.{is_data}
+use Rattle.rv_model.proofs.DataLemmas.{all_from-at}
 use Rattle.program_model.specs.Descriptors.{Descriptor, Free, Null, Out, Err, File, Descriptors, slot, with_slot, lowest_free, EINVAL}
 use Rattle.program_model.specs.Calls.{CallPlan, Set, Look, Read, Write, Exit, CallKind, Open, OpenAt, Close, Seek, ReadFile, WriteFile, ExitProgram, Break, Unknown, kind_of, Named, Refused, Whole, name_at, look_if_free, open_named, open_plan, close_plan, seek_base, moved_to, seek_from, seek_plan, read_count, read_if, read_plan, put_if, write_plan, break_plan, plan_by}
 use Rattle.code_model.specs.Regions.{shadowed}
@@ -130,23 +131,7 @@ read-planned w r d spot a e =
 
 -- the last byte of a stretch passes its test
 pub all_from-last : (test : ℕ → Bool) (a n : ℕ) → all_from test a (suc n) ≡ true → test (a + n) ≡ true
-unfolding all_from
-all_from-last test a zero h = let e : a ≡ a + 0 = omega arith in subst (λ (x : ℕ). test x ≡ true) e (first (test a) (all_from test (a + 1) 0) h)
-  where
-    first : (b c : Bool) → (b && c) ≡ true → b ≡ true
-    first true c h = refl
-    first false c h = absurd (no h)
-      where
-        no : false ≡ true → ⊥
-        no e = cc
-all_from-last test a (suc n) h = let e : a + 1 + n ≡ a + suc n = omega arith in subst (λ (x : ℕ). test x ≡ true) e (all_from-last test (a + 1) n (rest (test a) (all_from test (a + 1) (suc n)) h))
-  where
-    rest : (b c : Bool) → (b && c) ≡ true → c ≡ true
-    rest true c h = h
-    rest false c h = absurd (no h)
-      where
-        no : false ≡ true → ⊥
-        no e = cc
+all_from-last test a n h = all_from-at test (suc n) a n h (omega arith)
 
 -- data is below the end of the range, which is a multiple of 256
 pub data-region : (l : Layout) (a : ℕ) → is_data l a ≡ true → a / 256 < all_regions l

@@ -1,6 +1,7 @@
 -- Each word of RESTART leads to its next row, to the block behind the site, or to a park.
-use Rattle.std.proofs.Common.{◌≡◌, ◌≢◌, ℕ, zero, suc, ◌+◌, ◌-◌, ◌*◌, ◌%◌, ◌<◌, ◌≤◌, ◌⊎◌, inl, inr, Bool, true, false, ◌==◌, pos, List, [], ◌∷◌, ◌++◌, length, take, drop, slice_get, Option, Some, refl, ◌∙◌, ap, ap₂, sym, subst, arith, nat_lt, nat_le, zero-add, suc-add, lit<}
+use Rattle.std.proofs.Common.{◌≡◌, ◌≢◌, ℕ, zero, suc, ◌+◌, ◌-◌, ◌*◌, ◌%◌, ◌<◌, ◌≤◌, ◌⊎◌, inl, inr, Bool, true, false, ◌==◌, pos, List, ◌++◌, take, drop, slice_get, Option, Some, refl, ◌∙◌, ap, ap₂, sym, subst, arith, nat_lt, nat_le, lit<}
 use Rattle.std.proofs.lemmas.Bool.Decides.{nat_tests}
+use Rattle.std.proofs.lemmas.Bool.{lt-ltb}
 use Rattle.spec_base.specs.Word.{wrap, plus_int}
 use Rattle.spec_base.specs.Layout.{table_start, list_start}
 use Rattle.spec_base.specs.declared.layout.Layout.{Layout}
@@ -17,8 +18,9 @@ use Rattle.code_model.specs.Log.{box_start, boxed}
 use Rattle.code_model.specs.Regions.{entry_address, listed_address}
 use Rattle.side_model.specs.Hart.{Regs, get, put, Priv}
 use Rattle.code_model.specs.Tables.{Tabs, TableOk, all_regions}
-use Rattle.side_model.specs.Tables.{with_value}
-use Rattle.side_model.specs.Places.{Restarting, Jumping, Place, InHelper, code, helper_words}
+use Rattle.own_laws.proofs.StubWords.{slice_get-append}
+use Rattle.side_model.specs.Tables.{with_value, IsUnchanged}
+use Rattle.side_model.specs.Places.{Restarting, Jumping, Place, InHelper, code, helper_words, IsInstruction}
 use Rattle.side_model.specs.Words.{Point, Out, Goes, Loads, Stores, Keys, Calls, Parks, Fails, exec_some}
 use Rattle.side_model.specs.Rows.{Led, on, leaps, arrives, takes_count, takes_listed, takes_link, puts_entry, puts_count, calls, parks}
 use Rattle.side_model.specs.JumpRows.{JumpRow, j1, j2, j3, j4, j5, j6, j7, j8, j9, j10, j11, j12, j13, j14, j15, j16, lands, faults, JumpArrives, JumpFaults, JumpFits}
@@ -27,14 +29,7 @@ use Rattle.side_model.proofs.Numbers.{TextFits, text-fits, target-inside}
 use Rattle.side_model.proofs.Tabling.{all_regions-most}
 use Rattle.side_model.proofs.JumpWords.{forks, jump_leads}
 use Rattle.rows_log.specs.Queue.{LeavesLink}
-use Rattle.rows_log.specs.CallRows.{IsSite}
-use Rattle.rows_log.specs.RestartRows.{is_hcall, HasBox, AreLoaded, IsAnswered, with_four, Cleared, AllCleared, IsFresh, saved, RestartRow, r1, r2, r3, r4, r5, r6, r7, r8, r9, r10, r11, r12, r13, r14, r15, r16, r17, r18-47, r48, r49, r50, RestartedRow, RestartNext, word, call, Same, RestartArrives, RestartFaults, RestartStarts, RestartLeads, BoxStays, RestartedLeads}
-
--- ---- numbers
-
--- fewer words are left
-fewer : (k n : ℕ) → k < n → nat_lt k n ≡ true
-fewer k n h = grind (arith, nat_tests)
+use Rattle.rows_log.specs.RestartRows.{is_hcall, HasBox, AreLoaded, IsAnswered, with_four, Cleared, AllCleared, IsFresh, saved, RestartRow, r1, r2, r3, r4, r5, r6, r7, r8, r9, r10, r11, r12, r13, r14, r15, r16, r17, r18-47, r48, r49, r50, RestartedRow, RestartNext, word, call, RestartArrives, RestartFaults, RestartStarts, RestartLeads, BoxStays, RestartedLeads}
 
 -- ---- registers
 
@@ -56,11 +51,6 @@ get-but_31 i v q h = rw h refl
 
 -- ---- the words that load registers
 
--- what stands behind a list is the next list's
-slice_get-behind : {X : Type 0} (xs ys : List X) (n : ℕ) → slice_get (xs ++ ys) (length xs + n) ≡ slice_get ys n
-slice_get-behind [] ys n = ap (slice_get ys) (zero-add n)
-slice_get-behind (x ∷ xs) ys n = ap (slice_get (x ∷ (xs ++ ys))) (suc-add (length xs) n) ∙ slice_get-behind xs ys n
-
 -- load number k of n from register i on
 load-at : (i n k : ℕ) (rest : List Instr) → k < n → slice_get (box_loads i n ++ rest) k ≡ Some (ld (i + k) (pos (8 * (i + k))) 31)
 load-at i zero k rest h = absurd (omega arith)
@@ -71,7 +61,7 @@ load-at i (suc n) (suc k) rest h = let e : i + 1 + k ≡ i + suc k = omega arith
 load-word : (l : Layout) (k : ℕ) → k < 30 → slice_get (helper_words l Restarting) (17 + k) ≡ Some (ld (suc k) (pos (8 * suc k)) 31)
 load-word l k h =
     let e : 1 + k ≡ suc k = omega arith in
-    slice_get-behind (take 17 (helper_words l Restarting)) (drop 17 (helper_words l Restarting)) k ∙ load-at 1 30 k (drop 47 (helper_words l Restarting)) h
+    slice_get-append (take 17 (helper_words l Restarting)) (drop 17 (helper_words l Restarting)) k ∙ load-at 1 30 k (drop 47 (helper_words l Restarting)) h
     ∙ ap (λ (j : ℕ). Some (ld j (pos (8 * j)) 31)) e
 
 -- ---- what words leave
@@ -83,8 +73,8 @@ leaves-stored m a n v h x k = grind (arith, nat_tests)
 
 -- words that are known to leave tables and memory
 abbrev Quiet : Tabs → Memory → Out → Type 0
-Quiet t m (Goes s m') = Same t m s.tabs m'
-Quiet t m (Parks cause s m') = Same t m s.tabs m'
+Quiet t m (Goes s m') = IsUnchanged t m s.tabs m'
+Quiet t m (Parks cause s m') = IsUnchanged t m s.tabs m'
 Quiet t m (Loads op rd a s m') = ⊥
 Quiet t m (Stores op a v s m') = ⊥
 Quiet t m (Keys rd s m') = ⊥
@@ -94,9 +84,9 @@ Quiet t m Fails = ⊥
 -- where they lead by one family, they lead by another
 module _ (l : Layout) (program : Memory) (base : ℕ) (Row Row' : Place → Regs → Priv → Tabs → Memory → ℕ → Type 0) (Arrives Arrives' : ℕ → Regs → Tabs → Memory → Type 0)
     (Why Why' : Park → Tabs → Memory → Type 0) (n : ℕ) (t : Tabs) (m : Memory)
-    (rows : (place : Place) (rs : Regs) (s : Priv) (t' : Tabs) (m' : Memory) (k : ℕ) → Row place rs s t' m' k → Same t m t' m' → Row' place rs s t' m' k)
-    (arrivals : (p : ℕ) (rs : Regs) (t' : Tabs) (m' : Memory) → Arrives p rs t' m' → Same t m t' m' → Arrives' p rs t' m')
-    (causes : (cause : Park) (t' : Tabs) (m' : Memory) → Why cause t' m' → Same t m t' m' → Why' cause t' m') where
+    (rows : (place : Place) (rs : Regs) (s : Priv) (t' : Tabs) (m' : Memory) (k : ℕ) → Row place rs s t' m' k → IsUnchanged t m t' m' → Row' place rs s t' m' k)
+    (arrivals : (p : ℕ) (rs : Regs) (t' : Tabs) (m' : Memory) → Arrives p rs t' m' → IsUnchanged t m t' m' → Arrives' p rs t' m')
+    (causes : (cause : Park) (t' : Tabs) (m' : Memory) → Why cause t' m' → IsUnchanged t m t' m' → Why' cause t' m') where
   led-quiet : (o : Out) → Quiet t m o → Led l program base Row Arrives Why n o → Led l program base Row' Arrives' Why' n o
   led-quiet _ e (on r ok less inner) = on (rows _ _ _ _ _ _ r e) ok less inner
   led-quiet _ e (leaps place a d) = leaps place a (led-quiet _ e d)
@@ -109,7 +99,7 @@ module _ (l : Layout) (program : Memory) (base : ℕ) (Row Row' : Place → Regs
 
 -- ---- up to the HCALL
 
-module _ (l : Layout) (site : ℕ) (q : Regs) (base : ℕ) (words : List Instr) (program : Memory) (is : IsSite l site) where
+module _ (l : Layout) (site : ℕ) (q : Regs) (base : ℕ) (words : List Instr) (program : Memory) (is : IsInstruction l site) where
   abbrev row : Place → Regs → Priv → Tabs → ℕ → Type 0
   row = RestartRow l site q
 
@@ -186,7 +176,7 @@ module _ (l : Layout) (site : ℕ) (q : Regs) (base : ℕ) (words : List Instr) 
       let most : w.0 < 0x40_0000 = omega (arith, w.1, all_regions-most l) in
       let at : plus_int (t.listed j) (pos 0) ≡ entry_address w.0 = ap (λ (a : ℕ). plus_int a (pos 0)) w.2 ∙ omega arith in
       puts_entry w.0 at w.1 (lit< tt)
-      (on (word (r9 j s h (cleared-without j w.0 t ok w.2 c)) refl (leaves-stored m (plus_int (t.listed j) (pos 0)) 4 0 (omega (arith, at)))) (ok-without w.0 t ok) (fewer _ _ (omega arith)) refl)
+      (on (word (r9 j s h (cleared-without j w.0 t ok w.2 c)) refl (leaves-stored m (plus_int (t.listed j) (pos 0)) 4 0 (omega (arith, at)))) (ok-without w.0 t ok) (lt-ltb _ _ (omega arith)) refl)
 
   -- word 11 sets the count
   resets : {low : ℕ → ℕ} {b c d : ℕ} (s : Priv) (t : Tabs) (m : Memory) → AllCleared l t → leads 57 (InHelper Restarting 10) (with_four low list_start b c d) s t m
@@ -222,11 +212,11 @@ module _ (l : Layout) (site : ℕ) (q : Regs) (base : ℕ) (words : List Instr) 
   behind k rs s t m ok fresh h e f (inl g) =
       let at : 17 + suc k ≡ suc (17 + k) = omega arith in
       subst (λ (n : ℕ). led (InHelper Restarting (17 + k)) m (50 - k) (Goes (record { place = InHelper Restarting n; regs = rs; priv = saved l site q s; tabs = t }) m)) at
-      (on (next (not-47 k h) (r18-47 (suc k) s (omega arith) fresh e f)) ok (fewer (50 - suc k) (50 - k) (omega arith)) refl)
+      (on (next (not-47 k h) (r18-47 (suc k) s (omega arith) fresh e f)) ok (lt-ltb (50 - suc k) (50 - k) (omega arith)) refl)
   behind k rs s t m ok fresh h e f (inr g) =
       let at : 47 ≡ suc (17 + k) = omega arith in
       subst (λ (n : ℕ). led (InHelper Restarting (17 + k)) m (50 - k) (Goes (record { place = InHelper Restarting n; regs = rs; priv = saved l site q s; tabs = t }) m)) at
-      (on (next (not-47 k h) (r48 s fresh (λ i j. f i (omega arith)))) ok (fewer 20 (50 - k) (omega arith)) refl)
+      (on (next (not-47 k h) (r48 s fresh (λ i j. f i (omega arith)))) ok (lt-ltb 20 (50 - k) (omega arith)) refl)
 
   -- word 18 + k loads register k + 1
   loads : (k : ℕ) (rs : Regs) (s : Priv) (t : Tabs) (m : Memory) → TableOk l t → HasBox m site q → k < 30 → IsFresh l t → rs.x31 ≡ box_start → AreLoaded k q rs
@@ -254,20 +244,20 @@ module _ (l : Layout) (site : ℕ) (q : Regs) (base : ℕ) (words : List Instr) 
 
   -- each word up to the HCALL
   restart-words : {t : Tabs} {n : ℕ} {place : Place} {rs : Regs} {s : Priv} (m : Memory) → TableOk l t → HasBox m site q → row place rs s t n → leads n place rs s t m
-  restart-words m ok box (r1 s) = on (next refl (r2 s)) ok (fewer _ _ (omega arith)) refl
-  restart-words m ok box (r2 s) = takes_count refl (on (next refl (r3 s)) ok (fewer _ _ (omega arith)) refl)
-  restart-words m ok box (r3 s) = on (next refl (r4 s)) ok (fewer _ _ (omega arith)) refl
-  restart-words m ok box (r4 s {t}) = let d : wrap (t.count * 4) ≡ 4 * t.count = omega (arith, count-most t ok) in rw d (on (next refl (r5 s)) ok (fewer _ _ (omega arith)) refl)
+  restart-words m ok box (r1 s) = on (next refl (r2 s)) ok (lt-ltb _ _ (omega arith)) refl
+  restart-words m ok box (r2 s) = takes_count refl (on (next refl (r3 s)) ok (lt-ltb _ _ (omega arith)) refl)
+  restart-words m ok box (r3 s) = on (next refl (r4 s)) ok (lt-ltb _ _ (omega arith)) refl
+  restart-words m ok box (r4 s {t}) = let d : wrap (t.count * 4) ≡ 4 * t.count = omega (arith, count-most t ok) in rw d (on (next refl (r5 s)) ok (lt-ltb _ _ (omega arith)) refl)
   restart-words m ok box (r5 s {t}) =
-      let d : wrap (4 * t.count + listed_address 0) ≡ listed_address t.count = omega (arith, count-most t ok) in rw d (on (next refl (r6 0 s {t = t} (omega arith) (λ x inside some. some))) ok (fewer _ _ (omega arith)) refl)
+      let d : wrap (4 * t.count + listed_address 0) ≡ listed_address t.count = omega (arith, count-most t ok) in rw d (on (next refl (r6 0 s {t = t} (omega arith) (λ x inside some. some))) ok (lt-ltb _ _ (omega arith)) refl)
   restart-words m ok box (r6 j s {t} h c) =
       forks (nat_le (listed_address t.count) (listed_address j))
-      (λ e. let over : t.count ≤ j = grind (arith, nat_tests) in leaps (InHelper Restarting 10) refl (on (next refl (r11 s (all-cleared j t ok over c))) ok (fewer _ _ (omega arith)) refl))
-      (λ e. let under : j < t.count = grind (arith, nat_tests) in on (next refl (r7 j s under c)) ok (fewer _ _ (omega arith)) refl)
-  restart-words m ok box (r7 j s {t} h c) = takes_listed j (omega (arith, count-most t ok)) (omega (arith, ok.count)) (on (next refl (r8 j s h c)) ok (fewer _ _ (omega arith)) refl)
+      (λ e. let over : t.count ≤ j = grind (arith, nat_tests) in leaps (InHelper Restarting 10) refl (on (next refl (r11 s (all-cleared j t ok over c))) ok (lt-ltb _ _ (omega arith)) refl))
+      (λ e. let under : j < t.count = grind (arith, nat_tests) in on (next refl (r7 j s under c)) ok (lt-ltb _ _ (omega arith)) refl)
+  restart-words m ok box (r7 j s {t} h c) = takes_listed j (omega (arith, count-most t ok)) (omega (arith, ok.count)) (on (next refl (r8 j s h c)) ok (lt-ltb _ _ (omega arith)) refl)
   restart-words m ok box (r8 j s {t} h c) = clears j s t m ok h c
-  restart-words m ok box (r9 j s {t} h c) = let d : wrap (listed_address j + 4) ≡ listed_address (j + 1) = omega (arith, count-most t ok) in rw d (on (next refl (r10 j s h c)) ok (fewer _ _ (omega arith)) refl)
-  restart-words m ok box (r10 j s {t} h c) = leaps (InHelper Restarting 5) refl (on (next refl (r6 (j + 1) s {t = t} (omega arith) c)) ok (fewer _ _ (omega arith)) refl)
+  restart-words m ok box (r9 j s {t} h c) = let d : wrap (listed_address j + 4) ≡ listed_address (j + 1) = omega (arith, count-most t ok) in rw d (on (next refl (r10 j s h c)) ok (lt-ltb _ _ (omega arith)) refl)
+  restart-words m ok box (r10 j s {t} h c) = leaps (InHelper Restarting 5) refl (on (next refl (r6 (j + 1) s {t = t} (omega arith) c)) ok (lt-ltb _ _ (omega arith)) refl)
   restart-words m ok box (r11 s {t} c) = resets s t m c
   restart-words m ok box (r12 s f) = on (next refl (r13 s f)) ok refl refl
   restart-words m ok box (r13 s f) = takes_link refl (omega arith) (omega arith) (rw box.holds (on (next refl (r14 s f)) ok refl refl))
@@ -299,9 +289,9 @@ box_stays m m' site q f b = record { holds = loaded-kept m m' box_start (box_sta
 
 -- ---- behind the HCALL
 
-module _ (l : Layout) (site : ℕ) (q : Regs) (base : ℕ) (words : List Instr) (program : Memory) (is : IsSite l site) (fits : JumpFits l (site + 4) q base words) where
+module _ (l : Layout) (site : ℕ) (q : Regs) (base : ℕ) (words : List Instr) (program : Memory) (is : IsInstruction l site) (fits : JumpFits l (site + 4) q base words) where
   abbrev restarted : Tabs → Memory → Place → Regs → Priv → Tabs → Memory → ℕ → Type 0
-  restarted t m place rs s t' m' k = RestartedRow l site q place rs s t' k × Same t m t' m'
+  restarted t m place rs s t' m' k = RestartedRow l site q place rs s t' k × IsUnchanged t m t' m'
 
   abbrev goes : ℕ → Place → Regs → Priv → Tabs → Memory → Type 0
   goes n place rs s t m =
@@ -311,7 +301,7 @@ module _ (l : Layout) (site : ℕ) (q : Regs) (base : ℕ) (words : List Instr) 
   fitting : TextFits l
   fitting = text-fits l is.lawful
 
-  unchanged : {t : Tabs} {m : Memory} → Same t m t m
+  unchanged : {t : Tabs} {m : Memory} → IsUnchanged t m t m
   unchanged = record { tables = refl; memory = refl }
 
   -- a word of JUMP leaves tables and memory

@@ -1,7 +1,7 @@
 -- The rows of a call's block, and of the helper APPEND, which appends a keyed read to the hint log (this project's own).
-use Rattle.std.specs.Prelude.{ℕ, ◌+◌, ◌-◌, ◌*◌, ◌%◌, ◌^◌, ◌≡◌, ◌≤◌, ◌<◌, true, false, ◌==◌, negsuc, IsTrue, Bool, ◌&&◌, not, nat_lt}
+use Rattle.std.specs.Prelude.{ℕ, ◌+◌, ◌-◌, ◌*◌, ◌%◌, ◌^◌, ◌≡◌, ◌≤◌, ◌<◌, true, false, ◌==◌, negsuc, Bool, ◌&&◌, not, nat_lt}
 use Rattle.spec_base.specs.Word.{plus_int}
-use Rattle.spec_base.specs.Layout.{is_lawful, helpers_start, link_start}
+use Rattle.spec_base.specs.Layout.{helpers_start, link_start}
 use Rattle.spec_base.specs.declared.layout.Layout.{Layout}
 use Rattle.spec_base.specs.declared.park.Park.{Park}
 use Rattle.spec_base.specs.declared.park.Park.TheVariants as park
@@ -12,18 +12,11 @@ use Rattle.code_model.specs.Log.{log_head, log_tail, logged, IsQueue}
 use Rattle.code_model.specs.Places.{block_at, APPEND}
 use Rattle.side_model.specs.Hart.{Regs, get, put, Priv}
 use Rattle.code_model.specs.Tables.{Tabs, TableOk}
-use Rattle.side_model.specs.Places.{Appending, LogFullUp, Place, InBlock, InHelper, code}
+use Rattle.side_model.specs.Places.{Appending, LogFullUp, Place, InBlock, InHelper, code, IsInstruction}
 use Rattle.side_model.specs.Words.{exec_some}
 use Rattle.side_model.specs.Rows.{Led}
 use Rattle.side_model.specs.JumpRows.{high_part, with_31, with_30_31}
 use Rattle.rows_log.specs.Queue.{HasRoom, LogStep, Takes}
-
--- what is so of the address of an instruction of the program
-pub record IsSite (l : Layout) (p : ℕ) : Type 0 where
-  pub lawful : IsTrue (is_lawful l)
-  pub above : l.text_start ≤ p
-  pub below : p < l.text_end
-  pub whole : p % 4 ≡ 0
 
 -- registers with another x29, x30 and x31
 abbrev pub with_29_31 : Regs → ℕ → ℕ → ℕ → Regs
@@ -190,7 +183,7 @@ CallStarts =
 -- each word up to the HCALL leads to its next row, or to a park; none arrives
 abbrev pub CallLeads : Type 0
 CallLeads =
-    (l : Layout) (p : ℕ) (q : Regs) (tail key : ℕ) (program : Memory) → IsSite l p → key < 2 ^ 64 → get 12 q < 2 ^ 64
+    (l : Layout) (p : ℕ) (q : Regs) (tail key : ℕ) (program : Memory) → IsInstruction l p → key < 2 ^ 64 → get 12 q < 2 ^ 64
     → (n : ℕ) (place : Place) (rs : Regs) (s : Priv) (stage : Stage) (t : Tabs) (m : Memory) → TableOk l t → log_tail m < 2 ^ 64 - 1
     → CallRow l p q tail key place rs s stage n → AtStage tail (get 12 q) stage m
     → Led l program (block_at l p) (CallNext l p q tail key place stage t m) (λ target rs t' m'. ⊥) (LogIsFull key place stage t m) n
@@ -203,6 +196,6 @@ StagesStay = (tail count : ℕ) (stage : Stage) (m m' : Memory) → AtStage tail
 -- the word behind the HCALL arrives at the next block
 abbrev pub CalledArrives : Type 0
 CalledArrives =
-    (l : Layout) (p : ℕ) (q : Regs) (answer : ℕ) (program : Memory) → IsSite l p → (s : Priv) (t : Tabs) (m : Memory) → TableOk l t
+    (l : Layout) (p : ℕ) (q : Regs) (answer : ℕ) (program : Memory) → IsInstruction l p → (s : Priv) (t : Tabs) (m : Memory) → TableOk l t
     → Led l program (block_at l p) (λ place rs s t' m' k. ⊥) (CallArrives p q answer t m) (λ cause t' m'. ⊥) 1
     (exec_some (block_at l p) (code l (block l p Ecall) (InBlock 7)) (record { place = InBlock 7; regs = put 10 answer q; priv = s; tabs = t }) m)

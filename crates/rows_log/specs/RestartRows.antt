@@ -1,5 +1,5 @@
 -- The rows of the helper RESTART, which clears the regions and goes on from the box (this project's own).
-use Rattle.std.specs.Prelude.{ℕ, ◌+◌, ◌-◌, ◌*◌, ◌^◌, ◌≡◌, ◌≢◌, ◌≤◌, ◌<◌, ◌⊎◌, Bool, true, false, ◌==◌, List}
+use Rattle.std.specs.Prelude.{ℕ, ◌+◌, ◌-◌, ◌*◌, ◌^◌, ◌≡◌, ◌≢◌, ◌≤◌, ◌<◌, ◌⊎◌, Bool, false, ◌==◌, List}
 use Rattle.spec_base.specs.Layout.{helpers_start, list_start}
 use Rattle.spec_base.specs.declared.layout.Layout.{Layout}
 use Rattle.spec_base.specs.declared.park.Park.{Park}
@@ -11,12 +11,12 @@ use Rattle.code_model.specs.Places.{JUMP}
 use Rattle.code_model.specs.Regions.{listed_address}
 use Rattle.side_model.specs.Hart.{Regs, get, Priv}
 use Rattle.code_model.specs.Tables.{Tabs, TableOk, all_regions}
-use Rattle.side_model.specs.Places.{Restarting, Place, InHelper, code}
+use Rattle.side_model.specs.Places.{Restarting, Place, InHelper, code, IsInstruction}
 use Rattle.side_model.specs.Words.{exec_some}
 use Rattle.side_model.specs.Rows.{Led}
 use Rattle.side_model.specs.JumpRows.{high_part, with_31, JumpRow, JumpFits}
+use Rattle.side_model.specs.Tables.{IsUnchanged}
 use Rattle.rows_log.specs.Queue.{LeavesLink}
-use Rattle.rows_log.specs.CallRows.{IsSite}
 
 -- ---- the box, and the registers that come from it
 
@@ -120,23 +120,18 @@ pub data RestartNext (l : Layout) (site : ℕ) (q : Regs) (from : Place) (m : Me
   call : {place : Place} {rs : Regs} {s : Priv} {t' : Tabs} {m' : Memory} {k : ℕ} (answer : ℕ) (answered : Regs) → from ≡ InHelper Restarting 47 → answer < 2 ^ 64 → IsAnswered q answer answered
       → RestartedRow l site answered place rs s t' k → RestartNext l site q from m place rs s t' m' k
 
--- tables and memory as they were
-pub record Same (t : Tabs) (m : Memory) (t' : Tabs) (m' : Memory) : Type 0 where
-  pub tables : t' ≡ t
-  pub memory : m' ≡ m
-
 -- the shadow arrives behind the site, with the registers from the box and the answer
 pub record RestartArrives (l : Layout) (site : ℕ) (q : Regs) (t : Tabs) (m : Memory) (target : ℕ) (rs : Regs) (t' : Tabs) (m' : Memory) : Type 0 where
   pub behind : target ≡ site + 4
   pub inside : target < l.text_end
   pub registers : rs ≡ q
-  pub same : Same t m t' m'
+  pub same : IsUnchanged t m t' m'
 
 -- it parks where the site is the last instruction of the text
 pub record RestartFaults (l : Layout) (site : ℕ) (t : Tabs) (m : Memory) (cause : Park) (t' : Tabs) (m' : Memory) : Type 0 where
   pub fault : cause ≡ park.Fault
   pub last : site + 4 ≡ l.text_end
-  pub same : Same t m t' m'
+  pub same : IsUnchanged t m t' m'
 
 -- ---- statements
 
@@ -153,7 +148,7 @@ RestartStarts = (l : Layout) (site : ℕ) (q rs : Regs) (s : Priv) (t : Tabs) �
 -- each word up to the HCALL leads to its next row; none arrives, and none parks
 abbrev pub RestartLeads : Type 0
 RestartLeads =
-    (l : Layout) (site : ℕ) (q : Regs) (base : ℕ) (words : List Instr) (program : Memory) → IsSite l site
+    (l : Layout) (site : ℕ) (q : Regs) (base : ℕ) (words : List Instr) (program : Memory) → IsInstruction l site
     → (n : ℕ) (place : Place) (rs : Regs) (s : Priv) (t : Tabs) (m : Memory) → TableOk l t → HasBox m site q → RestartRow l site q place rs s t n
     → Led l program base (RestartNext l site q place m) (λ target rs t' m'. ⊥) (λ cause t' m'. ⊥) n
     (exec_some base (code l words place) (record { place = place; regs = rs; priv = s; tabs = t }) m)
@@ -165,7 +160,7 @@ BoxStays = (m m' : Memory) (site : ℕ) (q : Regs) → ((a : ℕ) → box_start 
 -- each word behind the HCALL leads to its next row, to the block behind the site, or to a park
 abbrev pub RestartedLeads : Type 0
 RestartedLeads =
-    (l : Layout) (site : ℕ) (q : Regs) (base : ℕ) (words : List Instr) (program : Memory) → IsSite l site → JumpFits l (site + 4) q base words
+    (l : Layout) (site : ℕ) (q : Regs) (base : ℕ) (words : List Instr) (program : Memory) → IsInstruction l site → JumpFits l (site + 4) q base words
     → (n : ℕ) (place : Place) (rs : Regs) (s : Priv) (t : Tabs) (m : Memory) → TableOk l t → RestartedRow l site q place rs s t n
-    → Led l program base (λ place rs s t' m' k. RestartedRow l site q place rs s t' k × Same t m t' m') (RestartArrives l site q t m) (RestartFaults l site t m) n
+    → Led l program base (λ place rs s t' m' k. RestartedRow l site q place rs s t' k × IsUnchanged t m t' m') (RestartArrives l site q t m) (RestartFaults l site t m) n
     (exec_some base (code l words place) (record { place = place; regs = rs; priv = s; tabs = t }) m)

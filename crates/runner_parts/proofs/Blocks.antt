@@ -1,4 +1,4 @@
--- The blocks of a read (the count as in plain_runner).
+-- The blocks of a read.
 use Rattle.std.proofs.Common.{◌≡◌, ◌≢◌, ℕ, zero, suc, ◌+◌, ◌-◌, ◌/◌, ◌<◌, ◌≤◌, ◌∙◌, Bool, true, false, nat_lt, is_some, List, [], ◌∷◌, ◌++◌, length, take, drop, slice_get, Option, Some, ap, sym, refl, arith}
 use Rattle.std.proofs.lemmas.Bool.Decides.{nat_tests}
 use Rattle.spec_base.specs.declared.spot.BlockSpot.{BlockSpot}
@@ -6,12 +6,9 @@ use Rattle.runner_parts.specs.Parts.{demand_if}
 use Rattle.spec_base.specs.Files.{Name}
 use Rattle.spec_base.specs.declared.spot.ReadSpot.{ReadSpot}
 use Rattle.program_model.specs.Cache.{Cache, blocks_up, blocks_touched, blocks_of, all_hinted, hinted}
+use Rattle.own_laws.proofs.Demand.{length-blocks_up}
 
 -- ---- how many blocks
-
-blocks_up-length : (name : Name) (first n : ℕ) → length (blocks_up name first n) ≡ n
-blocks_up-length name first zero = refl
-blocks_up-length name first (suc n) = ap suc (blocks_up-length name (first + 1) n)
 
 less_one : (n : ℕ) → suc n - 1 ≡ n
 less_one n = omega arith
@@ -22,7 +19,7 @@ block_count-is spot some = by spot.count some
   where
     by : (n : ℕ) → n ≢ 0 → (spot.offset + (n - 1)) / 4096 - spot.offset / 4096 + 1 ≡ length (blocks_touched spot n)
     by zero h = absurd (h refl)
-    by (suc n) h = rw (less_one n) (sym (blocks_up-length spot.name (spot.offset / 4096) ((spot.offset + n) / 4096 - spot.offset / 4096 + 1)))
+    by (suc n) h = rw (less_one n) (sym (length-blocks_up spot.name (spot.offset / 4096) ((spot.offset + n) / 4096 - spot.offset / 4096 + 1)))
 
 -- a read's blocks are so many from its first on
 pub blocks-are : (spot : ReadSpot) → blocks_of spot ≡ blocks_up spot.name (spot.offset / 4096) (length (blocks_of spot))
@@ -30,7 +27,7 @@ blocks-are spot = by spot.count
   where
     by : (n : ℕ) → blocks_touched spot n ≡ blocks_up spot.name (spot.offset / 4096) (length (blocks_touched spot n))
     by zero = refl
-    by (suc n) = ap (blocks_up spot.name (spot.offset / 4096)) (sym (blocks_up-length spot.name (spot.offset / 4096) ((spot.offset + n) / 4096 - spot.offset / 4096 + 1)))
+    by (suc n) = ap (blocks_up spot.name (spot.offset / 4096)) (sym (length-blocks_up spot.name (spot.offset / 4096) ((spot.offset + n) / 4096 - spot.offset / 4096 + 1)))
 
 -- one block is hinted, of those that are left
 pub hint-next : (depth : ℕ) (c : Cache) (name : Name) (first i n : ℕ) → i < n
@@ -100,14 +97,6 @@ module _ (spot : ReadSpot) where
   -- there is one where not all are had
   pub some-behind : (i : ℕ) → is_some (demand_if (nat_lt i count) (slice_get (blocks_of spot) i)) ≡ nat_lt i count
   some-behind i = some-by i (nat_lt i count) refl
-
--- a read has few blocks
-pub few-blocks : (spot : ReadSpot) → spot.count ≤ 65536 → length (blocks_of spot) ≤ 17
-few-blocks spot small = by spot.count small
-  where
-    by : (n : ℕ) → n ≤ 65536 → length (blocks_touched spot n) ≤ 17
-    by zero low = omega arith
-    by (suc n) low = (let count = blocks_up-length spot.name (spot.offset / 4096) ((spot.offset + n) / 4096 - spot.offset / 4096 + 1) in omega (arith, count, low))
 
 -- one block more from the front
 pub take-snoc : (xs : List BlockSpot) (i : ℕ) (x : BlockSpot) → slice_get xs i ≡ Some x → take (i + 1) xs ≡ take i xs ++ x ∷ []

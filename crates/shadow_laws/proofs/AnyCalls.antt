@@ -13,14 +13,14 @@ use Rattle.code_model.specs.Places.{block_at, APPEND}
 use Rattle.own_laws.proofs.Reached.{false_true}
 use Rattle.side_model.specs.Hart.{Regs, put, Priv}
 use Rattle.code_model.specs.Tables.{Tabs, TableOk}
-use Rattle.side_model.specs.Places.{Away, Appending, LogFullUp, Place, InBlock, InHelper, code}
+use Rattle.side_model.specs.Places.{Away, Appending, LogFullUp, Place, InBlock, InHelper, code, IsInstruction}
 use Rattle.side_model.specs.Words.{Out, exec_some}
 use Rattle.side_model.specs.Rows.{Led, on, leaps, arrives, takes_link, puts_link, keys, calls, parks}
 use Rattle.side_model.specs.JumpRows.{high_part, with_31, with_30_31}
 use Rattle.side_model.proofs.Numbers.{TextFits, text-fits}
 use Rattle.side_model.proofs.JumpWords.{forks}
 use Rattle.rows_access.proofs.Copies.{patch-outside}
-use Rattle.rows_log.specs.CallRows.{IsSite, with_29_31}
+use Rattle.rows_log.specs.CallRows.{with_29_31}
 
 -- the lowest six bits
 and_63 : (n : ℕ) → bit_and n 63 ≡ n % 64
@@ -146,7 +146,7 @@ module _ (l : Layout) (p : ℕ) (q : Regs) where
   at-call (b7 answer s) e = false_true e
   at-call (full rs s) e = false_true e
 
-  module _ (program : Memory) (is : IsSite l p) where
+  module _ (program : Memory) (is : IsInstruction l p) where
     abbrev led : Place → Tabs → Memory → ℕ → Out → Type 0
     led from t m n o = Led l program (block_at l p) (AnyCallNext from t m) (λ target rs t' m'. is_seventh from ≡ true) (λ cause t' m'. cause ≡ park.LogFull) n o
 

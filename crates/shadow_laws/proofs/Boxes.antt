@@ -1,19 +1,17 @@
 -- From a restart until word 34 of the stub is executed again the box holds the state at the restarting gate.
-use Rattle.std.proofs.Common.{◌≡◌, ℕ, zero, suc, ◌+◌, ◌-◌, ◌*◌, ◌^◌, ◌≤◌, ◌<◌, ◌⊎◌, inl, inr, [], ◌∷◌, ◌++◌, List, length, Option, Some, None, refl, ◌∙◌, ap, ap₂, sym, subst, arith}
+use Rattle.std.proofs.Common.{◌≡◌, ℕ, zero, suc, ◌+◌, ◌-◌, ◌*◌, ◌^◌, ◌≤◌, ◌<◌, ◌⊎◌, inl, inr, [], ◌∷◌, ◌++◌, length, Option, Some, None, refl, ◌∙◌, ap, ap₂, sym, subst, arith}
 use Rattle.std.proofs.lemmas.List.{length-append, append-nil, append_assoc}
 use Rattle.spec_base.specs.Layout.{table_start}
-use Rattle.spec_base.specs.declared.machine.View.TheVariants.{Stub}
 use Rattle.spec_base.specs.declared.note.Move.{Move}
 use Rattle.spec_base.specs.declared.note.Move.TheVariants.{O, S, T, D}
-use Rattle.spec_base.specs.declared.note.Note.{Note}
 use Rattle.spec_base.specs.declared.spot.BlockSpot.{BlockSpot}
 use Rattle.rv_model.specs.Memory.{Memory, loaded}
 use Rattle.rv_model.specs.Registers.{reg}
 use Rattle.program_model.specs.Cache.{in_flight}
 use Rattle.program_model.specs.PlainRun.{State}
 use Rattle.code_model.specs.Log.{box_start, boxed}
-use Rattle.run_model.specs.Run.{World, Run, RunEnd, Answer, Usual, Took, Failed, Lost, opened_run}
-use Rattle.run_model.specs.Moves.{Moves, step, step_unless, begun, run, run_from, fetch_of, fetch_ends, fetch_failed, landed_with}
+use Rattle.run_model.specs.Run.{World, Run, RunEnd, Answer, opened_run}
+use Rattle.run_model.specs.Moves.{Moves, step, step_unless, begun, run, run_from, fetch_of}
 use Rattle.run_laws.specs.OwnLaws.{Accepted, IsShadowMove}
 use Rattle.run_laws.specs.StubLaws.{IsBoxed}
 use Rattle.run_laws.specs.LogLaws.{IsBoxing, BoxIsKept}
@@ -23,9 +21,9 @@ use Rattle.own_laws.proofs.InvisibleShadow.{shadow_move-keeps}
 use Rattle.own_laws.proofs.Reached.{none_some}
 use Rattle.own_laws.proofs.Side.{Side, side_of, Kept}
 use Rattle.shadow_laws.proofs.LoggedSteps.{LeavesBox}
-use Rattle.shadow_laws.proofs.LogMoves.{Grows}
 use Rattle.shadow_laws.proofs.LogRuns.{grows-at}
-use Rattle.shadow_laws.proofs.ShadowRuns.{run-snoc}
+use Rattle.own_laws.proofs.OwnSteps.{fetch_of-by}
+use Rattle.own_laws.proofs.MoveLists.{run_from-snoc}
 
 -- ---- a box that is left
 
@@ -93,26 +91,11 @@ own-origin r next (at_restart b e o runs) h = λ q is.
 module _ (w : World) (a : Accepted w) where
   -- ---- the other moves
 
-  landed-origin : (o : Option BlockSpot) (r : Run) (notes : List Note) → (landed_with o r notes).since.origin ≡ r.since.origin
-  landed-origin (Some b) r notes = refl
-  landed-origin None r notes = refl
-
-  failed-origin : (o : Option BlockSpot) (r : Run) (spot : BlockSpot) → (fetch_failed o r spot).since.origin ≡ r.since.origin
-  failed-origin (Some b) r spot = refl
-  failed-origin None r spot = refl
-
-  ends-origin : (x : Answer) (r : Run) (spot : BlockSpot) → (fetch_ends w x r spot).since.origin ≡ r.since.origin
-  ends-origin Failed r spot = failed-origin r.cache.demanded r spot
-  ends-origin Lost r spot = landed-origin r.cache.demanded r _
-  ends-origin Usual r spot = landed-origin r.cache.demanded r _
-  ends-origin (Took k) r spot = landed-origin r.cache.demanded r _
-
   fetch-origin : (x : Answer) (r : Run) → (step w r (D, x)).since.origin ≡ r.since.origin
   fetch-origin x r = by_end r.end
     where
       by_flight : (o : Option BlockSpot) → (fetch_of o w x (begun r)).since.origin ≡ r.since.origin
-      by_flight None = refl
-      by_flight (Some spot) = ends-origin x (begun r) spot
+      by_flight o = fetch_of-by w x (begun r) (λ next. next.since.origin ≡ r.since.origin) (λ b. refl) o
 
       by_end : (e : Option RunEnd) → (step_unless e w r (D, x)).since.origin ≡ r.since.origin
       by_end (Some e) = refl
@@ -145,7 +128,7 @@ module _ (w : World) (a : Accepted w) where
   all-origin : (ms before : Moves) → length before + length ms < 2 ^ 64 - 1 → HasOrigin (run w before) → HasOrigin (run w (before ++ ms))
   all-origin [] before few h = subst (λ ms. HasOrigin (run w ms)) (sym (append-nil before)) h
   all-origin (m ∷ ms) before few h =
-      let one : HasOrigin (run w (before ++ m ∷ [])) = subst HasOrigin (sym (run-snoc w a (opened_run w) before m)) (move-origin before m.0 m.1 (omega (arith, few)) h) in
+      let one : HasOrigin (run w (before ++ m ∷ [])) = subst HasOrigin (sym (run_from-snoc w (opened_run w) before m)) (move-origin before m.0 m.1 (omega (arith, few)) h) in
       subst (λ ms. HasOrigin (run w ms)) (append_assoc before (m ∷ []) ms) (all-origin ms (before ++ m ∷ []) (omega (arith, few, length-append before (m ∷ []))) one)
 
 -- ---- the law

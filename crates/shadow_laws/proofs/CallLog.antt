@@ -1,8 +1,8 @@
 -- In a call's block the hint log gets the pair of the planned call, once.
-use Rattle.std.proofs.Common.{◌≡◌, ℕ, zero, suc, ◌+◌, ◌-◌, ◌*◌, ◌/◌, ◌%◌, ◌^◌, ◌≤◌, ◌<◌, ◌⊎◌, inl, inr, Bool, true, false, ◌&&◌, not, ◌==◌, nat_le, List, [], ◌∷◌, ◌++◌, length, slice_get, Option, Some, None, refl, ◌∙◌, ap, ap₂, sym, subst, arith, eqb→eq, lit<, lit≤}
+use Rattle.std.proofs.Common.{◌≡◌, ℕ, ◌+◌, ◌-◌, ◌/◌, ◌%◌, ◌^◌, ◌≤◌, ◌<◌, ◌⊎◌, inl, inr, Bool, true, false, ◌&&◌, not, ◌==◌, nat_le, List, [], ◌∷◌, ◌++◌, length, slice_get, Option, Some, None, refl, ◌∙◌, ap, ap₂, sym, subst, arith, eqb→eq, lit<, lit≤}
 use Rattle.std.proofs.lemmas.Bool.Decides.{nat_tests}
 use Rattle.std.proofs.lemmas.List.{length-append, append-nil, append_assoc}
-use Rattle.spec_base.specs.Layout.{link_start, helpers_start}
+use Rattle.spec_base.specs.Layout.{link_start}
 use Rattle.spec_base.specs.declared.layout.Layout.{Layout}
 use Rattle.spec_base.specs.declared.machine.View.TheVariants.{Shadow}
 use Rattle.spec_base.specs.declared.note.Move.{Move}
@@ -16,13 +16,13 @@ use Rattle.spec_base.specs.Word.{byte_of}
 use Rattle.rv_model.specs.Memory.{Memory, stored, zeros}
 use Rattle.rv_model.proofs.Laws.{patched_outside}
 use Rattle.rv_model.specs.Effect.{Effect, Next, Stored, Trapped, Called, Gated, effect, fetched}
-use Rattle.rv_model.specs.Registers.{Registers, reg, with_reg}
+use Rattle.rv_model.specs.Registers.{Registers, reg}
 use Rattle.rv_model.specs.Rights.{is_data, in_private, shadow_rights}
-use Rattle.rv_model.specs.Space.{program_byte, shadow_sees}
+use Rattle.rv_model.specs.Space.{program_byte}
 use Rattle.program_model.specs.Cache.{in_flight}
 use Rattle.program_model.specs.Calls.{Set, CallKind, Open, OpenAt, Close, Seek, ReadFile, WriteFile, ExitProgram, Break, Unknown, kind_of, plan_by, Named, Refused, Whole, name_at, look_if_free, open_named, open_plan, call_plan, key_of}
 use Rattle.program_model.specs.Descriptors.{Descriptors, lowest_free, EINVAL}
-use Rattle.program_model.specs.PlainRun.{State, text_of}
+use Rattle.program_model.specs.PlainRun.{text_of}
 use Rattle.spec_base.specs.Files.{Name}
 use Rattle.code_model.specs.Blocks.{block}
 use Rattle.code_model.specs.Log.{log_head, log_tail, logged, IsQueue}
@@ -37,12 +37,13 @@ use Rattle.run_laws.specs.OwnLaws.{Accepted, IsShadowMove}
 use Rattle.run_laws.specs.StubLaws.{TakesOldest, leaves, takes_pair, is_halted}
 use Rattle.run_laws.specs.LogLaws.{IsInCallBlock, AppendsCall, CallAppends}
 use Rattle.run_laws.specs.LogLaws as law
-use Rattle.own_laws.proofs.InvisibleShadow.{effect-no_call, NoCall, shadow_move-keeps}
+use Rattle.own_laws.proofs.InvisibleShadow.{effect-no_call, NoCall, shadow_move-keeps, shadow_view}
 use Rattle.own_laws.proofs.Reached.{none_some, false_true}
 use Rattle.own_laws.proofs.Side.{Kept}
+use Rattle.own_laws.proofs.MoveLists.{run_from-snoc, run_from-append}
 use Rattle.side_model.specs.Hart.{Regs, get, put, Priv}
 use Rattle.code_model.specs.Tables.{Tabs}
-use Rattle.side_model.specs.Places.{Place, InBlock, InHelper, Away, Appending, Helper, offset_of, address, code, HasBlock}
+use Rattle.side_model.specs.Places.{Place, InBlock, InHelper, Away, Appending, address, code, HasBlock, IsInstruction}
 use Rattle.side_model.specs.Rows.{Led}
 use Rattle.side_model.specs.Sees.{Shade, shade_of, HasRegs, Sees, Landed, goes_on, arrived, parked}
 use Rattle.side_model.specs.Words.{Point, exec_some}
@@ -50,7 +51,7 @@ use Rattle.side_model.proofs.Fetching.{Fetches, code-fetches}
 use Rattle.side_model.proofs.Numbers.{TextFits}
 use Rattle.side_model.proofs.Private.{priv_of, HasPriv-of}
 use Rattle.side_model.proofs.Registers.{regs_of, HasRegs-of}
-use Rattle.rows_log.specs.CallRows.{IsSite, Stage, Before, Appended, AtStage, Settled, keyless, keyed, CallRow, b1, b2, b3, b4, b5, b6, a1, a2, a3, a4, a5, a6, a7, a8, a9, a10, a11, a12, a13, a14, a15, a16, a17, a18, a19, a20, a21, a22, a23, a24, full, before_key, KeyStep, keeps_key, finds_key, CallNext, word, call, CallArrives, LogIsFull}
+use Rattle.rows_log.specs.CallRows.{Stage, Before, AtStage, Settled, keyless, keyed, CallRow, b1, b2, b3, b4, b5, b6, a1, a2, a3, a4, a5, a6, a7, a8, a9, a10, a11, a12, a13, a14, a15, a16, a17, a18, a19, a20, a21, a22, a23, a24, full, before_key, KeyStep, keeps_key, finds_key, CallNext, word, call, CallArrives, LogIsFull}
 use Rattle.rows_log.specs.Queue.{Takes}
 use Rattle.rows_log.proofs.CallWords.{call_leads, call_starts, called_arrives, stages-stay}
 use Rattle.rows_log.proofs.QueueLaws.{head-takes}
@@ -58,8 +59,8 @@ use Rattle.shadow_laws.proofs.LogMoves.{tail-small}
 use Rattle.shadow_laws.proofs.LogRuns.{run-inv, took-at}
 use Rattle.shadow_laws.proofs.LoggedSteps.{key-small}
 use Rattle.shadow_laws.proofs.OwnShades.{Watched, watched_of, OwnShade, same, links, halts, begins, own-shade, fetch-shade}
-use Rattle.shadow_laws.proofs.ShadowNumbers.{Sized, stock_of, run-sized, shadow_key-small}
-use Rattle.shadow_laws.proofs.ShadowRuns.{HasTables, has-tables, run-keeps, call-site, block-arrives, Counted, running-counted, resting-stays, run-snoc}
+use Rattle.shadow_laws.proofs.ShadowNumbers.{Sized, stock_of, run-sized}
+use Rattle.shadow_laws.proofs.ShadowRuns.{HasTables, has-tables, run-keeps, call-site, block-arrives, running-counted, resting-stays}
 use Rattle.shadow_laws.proofs.Sound.{At, stopped_running, never_running, parked_running}
 use Rattle.shadow_laws.proofs.SoundSteps.{landed, next, stays-at}
 use Rattle.shadow_laws.proofs.TextBlocks.{InText, at-address, text}
@@ -186,7 +187,7 @@ module _ (w : World) (x : Answer) (r : Run) where
   -- a word that is no call leaves the descriptors
   step-files : (i : Instr) → r.shadow.state ≡ Running → fetch_shadow w r.shadow.pc ≡ Some i → is_call_word (Some i) ≡ false → (shadow_step w x r).shadow.files ≡ r.shadow.files
   step-files i running f e =
-      let m : Memory = shadow_sees w.image.layout (rewritten_words w) r.own.memory r.shared r.shadow_page in
+      let m : Memory = shadow_view w r in
       let y : Run = shadow_after w x r (effect Shadow (shadow_rights w.image.layout) m r.shadow.registers r.shadow.pc i) in
       subst (λ z. (shadow_in z w x r).shadow.files ≡ r.shadow.files) (sym running)
       (subst (λ o. (word_counted (shadow_at_word w x r o)).shadow.files ≡ r.shadow.files) (sym f)
@@ -196,7 +197,7 @@ module _ (w : World) (x : Answer) (r : Run) where
   -- HKEY x31 gives the key of the planned call
   step-key : r.shadow.state ≡ Running → fetch_shadow w r.shadow.pc ≡ Some (Hkey 31) → reg (shadow_step w x r).shadow.registers 31 ≡ key_of (shadow_plan w r)
   step-key running f =
-      let m : Memory = shadow_sees w.image.layout (rewritten_words w) r.own.memory r.shared r.shadow_page in
+      let m : Memory = shadow_view w r in
       let y : Run = shadow_after w x r (effect Shadow (shadow_rights w.image.layout) m r.shadow.registers r.shadow.pc (Hkey 31)) in
       subst (λ z. reg (shadow_in z w x r).shadow.registers 31 ≡ key_of (shadow_plan w r)) (sym running)
       (subst (λ o. reg (word_counted (shadow_at_word w x r o)).shadow.registers 31 ≡ key_of (shadow_plan w r)) (sym f)
@@ -204,7 +205,7 @@ module _ (w : World) (x : Answer) (r : Run) where
 
 -- ---- in the call's block
 
-module _ (w : World) (a : Accepted w) (p : ℕ) (is : IsSite w.image.layout p) (q : Regs) (count_small : get 12 q < 2 ^ 64) (tail : ℕ) (files : Descriptors) where
+module _ (w : World) (a : Accepted w) (p : ℕ) (is : IsInstruction w.image.layout p) (q : Regs) (count_small : get 12 q < 2 ^ 64) (tail : ℕ) (files : Descriptors) where
   abbrev l : Layout
   l = w.image.layout
 
@@ -520,7 +521,7 @@ module _ (w : World) (a : Accepted w) (p : ℕ) (is : IsSite w.image.layout p) (
     all-since [] before few f = subst (λ ms. Since restarts arrivals (watched_of (run w ms))) (sym (append-nil before)) f
     all-since (m ∷ on) before few f =
         let one : Since restarts arrivals (watched_of (run w (before ++ m ∷ []))) =
-        subst (λ (r : Run). Since restarts arrivals (watched_of r)) (sym (run-snoc w a (opened_run w) before m)) (move-since before m.0 m.1 (omega (arith, few)) f) in
+        subst (λ (r : Run). Since restarts arrivals (watched_of r)) (sym (run_from-snoc w (opened_run w) before m)) (move-since before m.0 m.1 (omega (arith, few)) f) in
         subst (λ ms. Since restarts arrivals (watched_of (run w ms))) (append_assoc before (m ∷ []) on) (all-since on (before ++ m ∷ []) (omega (arith, few, length-append before (m ∷ []))) one)
 
   -- ---- at the HCALL
@@ -575,7 +576,7 @@ module _ (w : World) (a : Accepted w) (p : ℕ) (is : IsSite w.image.layout p) (
 -- ---- where the block begins
 
 module _ (w : World) (a : Accepted w) (p : ℕ) (call_there : fetched (text_of w.image) w.image.layout.text_start p ≡ Some Ecall) where
-  site : IsSite w.image.layout p
+  site : IsInstruction w.image.layout p
   site = call-site w a (record w.image.start { pc = p }) Ecall call_there
 
   in-text : InText w p Ecall
@@ -612,16 +613,10 @@ module _ (w : World) (a : Accepted w) (p : ℕ) (call_there : fetched (text_of w
         row = record { key = 0; stage = Before; row = c.0; log = c.1; small = lit< tt; found = unknown refl };
       }) refl
 
--- moves behind moves
-run-append : (w : World) (r : Run) (ms on : Moves) → run_from w r (ms ++ on) ≡ run_from w (run_from w r ms) on
-unfolding run_from
-run-append w r [] on = refl
-run-append w r (m ∷ ms) on = run-append w (step w r m) ms on
-
 -- ---- the law
 
 -- where a run has come from its first word in a call's block
-abbrev From : (w : World) → Accepted w → (p : ℕ) → IsSite w.image.layout p → (first : Run) → get 12 (regs_of first.shadow.registers) < 2 ^ 64 → Watched → Type 0
+abbrev From : (w : World) → Accepted w → (p : ℕ) → IsInstruction w.image.layout p → (first : Run) → get 12 (regs_of first.shadow.registers) < 2 ^ 64 → Watched → Type 0
 From w a p is first small s = Since w a p is (regs_of first.shadow.registers) small (log_tail first.shared) first.shadow.files first.restarts first.since.shadow s
 
 -- a call's block appends the call's pair
@@ -635,12 +630,12 @@ call_appends w a ms on p few at_first at_last same_arrivals same_restarts = by_s
     last = run_from w first on
 
     at_end : run w (ms ++ on) ≡ last
-    at_end = run-append w (opened_run w) ms on
+    at_end = run_from-append w (opened_run w) ms on
 
     q : Regs
     q = regs_of first.shadow.registers
 
-    is : IsSite w.image.layout p
+    is : IsInstruction w.image.layout p
     is = site w a p at_first.call
 
     small : get 12 q < 2 ^ 64

@@ -1,8 +1,7 @@
 -- What a word of the shadow leaves of the link: all, unless it is one of a call's.
-use Rattle.std.proofs.Common.{◌≡◌, ℕ, ◌%◌, ◌⊎◌, inl, inr, Bool, true, false, ◌&&◌, ℤ, List, slice_get, Option, Some, None, refl, ◌∙◌, ap, sym, subst, ◌==◌}
+use Rattle.std.proofs.Common.{◌≡◌, ℕ, ◌%◌, ◌⊎◌, inl, inr, Bool, true, false, ℤ, List, slice_get, Option, Some, None, refl, ◌∙◌, ap, sym, subst, ◌==◌}
 use Rattle.spec_base.specs.Word.{plus_int}
 use Rattle.spec_base.specs.declared.layout.Layout.{Layout}
-use Rattle.spec_base.specs.declared.machine.View.TheVariants.{Shadow}
 use Rattle.spec_base.specs.declared.note.ShadowState.TheVariants.{Running, Parked}
 use Rattle.spec_base.specs.declared.park.Park.{Park}
 use Rattle.rv_decode.specs.declared.instr.Instr.{Instr}
@@ -11,24 +10,26 @@ use Rattle.rv_model.specs.Memory.{Memory, zeros, all_from}
 use Rattle.rv_model.specs.Registers.{reg}
 use Rattle.rv_model.specs.Arithmetic.{store_width}
 use Rattle.rv_model.specs.Rights.{in_private, shadow_rights}
-use Rattle.rv_model.specs.Effect.{effect, store_if}
-use Rattle.rv_model.specs.Space.{program_byte, shadow_sees}
+use Rattle.rv_model.specs.Effect.{store_if}
+use Rattle.rv_model.specs.Space.{program_byte}
 use Rattle.code_model.specs.Assembly.{X31, ld}
 use Rattle.code_model.specs.Blocks.{block}
 use Rattle.code_model.specs.Places.{block_at}
 use Rattle.run_model.specs.Run.{World, Run, Answer, rewritten_words}
-use Rattle.run_model.specs.ShadowMoves.{shadow_step, shadow_in, shadow_after, shadow_at_word, shadow_stores, arrived_if, word_counted, is_running, is_arrival, fetch_shadow}
+use Rattle.run_model.specs.ShadowMoves.{shadow_step, shadow_after, shadow_stores, fetch_shadow}
 use Rattle.run_laws.specs.OwnLaws.{Accepted}
 use Rattle.own_laws.proofs.Reached.{false_true, none_some}
+use Rattle.own_laws.proofs.InvisibleShadow.{shadow_effect}
 use Rattle.side_model.specs.Hart.{Regs, Priv}
 use Rattle.code_model.specs.Tables.{Tabs}
-use Rattle.side_model.specs.Places.{Place, Jumping, Faulting, address, code}
+use Rattle.side_model.specs.Places.{Place, Jumping, Faulting, address, code, IsInstruction}
 use Rattle.side_model.specs.Words.{Point, exec_some}
 use Rattle.side_model.specs.Rows.{Led}
 use Rattle.side_model.specs.Sees.{Shade, shade_of, Landed, goes_on, arrived, parked}
 use Rattle.side_model.specs.JumpRows.{JumpRow, j1, j2, j3, j4, j5, j6, j7, j8, j9, j10, j11, j12, j13, j14, j15, j16, lands, faults, JumpFits}
 use Rattle.side_model.proofs.Fetching.{Fetches, code-fetches}
 use Rattle.side_model.proofs.JumpWords.{jump_leads}
+use Rattle.side_model.proofs.Stepping.{shade-step}
 use Rattle.rows_access.proofs.LoadWords.{load_leads}
 use Rattle.rows_access.proofs.StoreWords.{store_leads}
 use Rattle.rows_access.proofs.StoreChanges.{store_keeps}
@@ -37,7 +38,6 @@ use Rattle.rows_flow.proofs.PlainWords.{plain_leads, auipc_leads, park_leads, gu
 use Rattle.rows_flow.proofs.BranchWords.{branch_leads}
 use Rattle.rows_flow.proofs.JalWords.{jal_leads}
 use Rattle.rows_flow.proofs.JalrWords.{jalr_leads}
-use Rattle.rows_log.specs.CallRows.{IsSite}
 use Rattle.rows_log.specs.LinkWords.{stores_out}
 use Rattle.rows_log.specs.Queue.{LeavesLink}
 use Rattle.rows_log.specs.RestartRows.{RestartNext, word, call}
@@ -78,11 +78,6 @@ pad-quiet l words f (at_pad rs s) i e = let is : Some (ld 31 X31 0) ≡ Some i =
 
 -- ---- a store that parks has stored nothing
 
--- an arrival and a word are counted, and the shadow's part is left
-counted-shade : (b : Bool) (r : Run) → shade_of (word_counted (arrived_if b r)) ≡ shade_of r
-counted-shade true r = refl
-counted-shade false r = refl
-
 -- a store leaves the state
 pub stores-go_on : (b : Bool) (r : Run) (a width v : ℕ) → (shade_of (shadow_stores b r a width v)).hart.state ≡ r.shadow.state
 stores-go_on true r a width v = refl
@@ -99,7 +94,7 @@ module _ (w : World) (x : Answer) (r : Run) where
   store_if-stores true true a width v = inr (stores-go_on (in_private a) r a width v)
 
   store-stores : (i : Instr) → stores_out i ≡ true
-      → Stores (shade_of (shadow_after w x r (effect Shadow (shadow_rights w.image.layout) (shadow_sees w.image.layout (rewritten_words w) r.own.memory r.shared r.shadow_page) r.shadow.registers r.shadow.pc i)))
+      → Stores (shade_of (shadow_after w x r (shadow_effect w r i)))
   store-stores (Store op rs1 rs2 imm) e =
       let a : ℕ = plus_int (reg r.shadow.registers rs1) imm in
       store_if-stores (a % store_width op == 0) (all_from (shadow_rights w.image.layout).store a (store_width op)) a (store_width op) (reg r.shadow.registers rs2)
@@ -129,10 +124,7 @@ module _ (w : World) (x : Answer) (r : Run) where
   -- where a store leads
   step-stores : (i : Instr) → r.shadow.state ≡ Running → fetch_shadow w r.shadow.pc ≡ Some i → stores_out i ≡ true → Stores (shade_of (shadow_step w x r))
   step-stores i running f e =
-      let next : Run = shadow_after w x r (effect Shadow (shadow_rights w.image.layout) (shadow_sees w.image.layout (rewritten_words w) r.own.memory r.shared r.shadow_page) r.shadow.registers r.shadow.pc i) in
-      subst (λ z. Stores (shade_of (shadow_in z w x r))) (sym running)
-      (subst (λ o. Stores (shade_of (word_counted (shadow_at_word w x r o)))) (sym f)
-      (subst Stores (sym (counted-shade (is_running next.shadow.state && is_arrival w.image.layout next.shadow.pc) next)) (store-stores i e)))
+      subst Stores (sym (shade-step w x r i running f)) (store-stores i e)
 
 module _ (w : World) (a : Accepted w) (x : Answer) (r : Run) (z : Sized (stock_of r)) where
   abbrev l : Layout
@@ -204,7 +196,7 @@ module _ (w : World) (a : Accepted w) (x : Answer) (r : Run) (z : Sized (stock_o
 
   -- each word leaves the link, or is one of a call's
   pub link-steps : {X : Type 0} {C : CallRows} {n : ℕ} → (LeavesLink r.shared after.shared → X)
-      → ((p : ℕ) (q : Regs) → IsSite l p → At w (block_at l p) (block l p Ecall) (C p q) (shade_of r) n → X) → Sound w C (shade_of r) n → X
+      → ((p : ℕ) (q : Regs) → IsInstruction l p → At w (block_at l p) (block l p Ecall) (C p q) (shade_of r) n → X) → Sound w C (shade_of r) n → X
   link-steps {n = n} keeps calls (computing p i q is c at) =
       stored-by keeps at (plain_leads l p i q program is c n at.point.place at.point.regs at.point.priv at.point.tabs r.shared at.ok at.row) (λ i e b s k row. keeps (kept row.1.memory)) (λ to s y. keeps (kept y.1.memory))
   link-steps {n = n} keeps calls (quartering p rd imm q is f at) =

@@ -15,7 +15,7 @@ use Rattle.run_laws.specs.StubLaws.{Appends, IsEmpty, RestartsFromBox, TakesOlde
 use Rattle.own_laws.proofs.Bounds.{Words}
 use Rattle.own_laws.proofs.LogChanges.{Appends-same}
 use Rattle.side_model.specs.Sees.{Shade, shade_of}
-use Rattle.rows_log.specs.CallRows.{IsSite}
+use Rattle.side_model.specs.Places.{IsInstruction}
 use Rattle.rows_log.specs.Queue.{Takes}
 use Rattle.rows_log.proofs.QueueLaws.{head-takes, taking-keeps}
 use Rattle.shadow_laws.proofs.LoggedSteps.{logged_calls, LeavesBox, Appending, logged-appends, logged-steps, logged-stays}
@@ -113,7 +113,7 @@ module _ (w : World) (a : Accepted w) where
       record { place = λ f. stopped_running (sym state ∙ f); queue = λ n. absurd (n state) }
 
   -- each own move in the stub keeps what is so of the log
-  pub own-logged : (r next : Run) (k : ℕ) → OwnShade r next → TakesOldest r next → HasTables w (watched_of r) → Sized (stock_of r) → (next.restarts ≢ r.restarts → IsSite w.image.layout r.at_gate.pc × RestartsFromBox r next)
+  pub own-logged : (r next : Run) (k : ℕ) → OwnShade r next → TakesOldest r next → HasTables w (watched_of r) → Sized (stock_of r) → (next.restarts ≢ r.restarts → IsInstruction w.image.layout r.at_gate.pc × RestartsFromBox r next)
       → Logged w (shade_of r) k → Logged w (shade_of next) (k + 1)
   own-logged r next k (same e) takes y z box g = same-logged r next k g (ap (λ (s : Watched). s.shade) e)
   own-logged r next k (links b width v low e) takes y z box g = linked-logged r next k _ g z takes (ap (λ (s : Watched). s.shade) e)
@@ -122,7 +122,7 @@ module _ (w : World) (a : Accepted w) where
       record { place = λ f. stopped_running (sym state ∙ f); queue = λ n. absurd (n state) }
   own-logged r next k (begins v e) takes y z box g =
       let more : next.restarts ≡ r.restarts + 1 = ap (λ (s : Watched). s.restarts) e in
-      let b : IsSite w.image.layout r.at_gate.pc × RestartsFromBox r next = box (λ f. absurd (omega (arith, more, f))) in
+      let b : IsInstruction w.image.layout r.at_gate.pc × RestartsFromBox r next = box (λ f. absurd (omega (arith, more, f))) in
       let empty : IsEmpty next.shared = b.1.empty in
       record {
         place = λ f. (63 + 5 * y.tables.count, subst (λ h. Sound w (logged_calls w) h (63 + 5 * y.tables.count)) (sym (ap (λ (s : Watched). s.shade) e)) (restart-sound w a (logged_calls w) r next y.tables y.has y.ok b.0 b.1));

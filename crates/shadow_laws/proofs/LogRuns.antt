@@ -1,23 +1,21 @@
 -- In every run of fewer than 2^64 - 1 moves the hint log is a queue while the shadow isn't stopped, and the shadow only appends to it.
-use Rattle.std.proofs.Common.{◌≡◌, ℕ, ◌+◌, ◌-◌, ◌^◌, ◌<◌, ◌⊎◌, inl, inr, Bool, true, false, List, [], ◌∷◌, ◌++◌, length, Option, Some, None, refl, ◌∙◌, ap, sym, subst, arith, drop}
+use Rattle.std.proofs.Common.{◌≡◌, ℕ, ◌+◌, ◌-◌, ◌^◌, ◌<◌, ◌⊎◌, inl, inr, Bool, true, false, [], ◌∷◌, ◌++◌, length, Option, Some, None, refl, ◌∙◌, ap, sym, subst, arith}
 use Rattle.std.specs.Prelude.{◌≢◌}
 use Rattle.std.proofs.lemmas.List.{length-append, append-nil, append_assoc}
 use Rattle.spec_base.specs.declared.machine.View.TheVariants.{Program, Stub}
 use Rattle.spec_base.specs.declared.note.Move.{Move}
 use Rattle.spec_base.specs.declared.note.Move.TheVariants.{O, S, T, D}
-use Rattle.spec_base.specs.declared.note.Note.{Note}
 use Rattle.spec_base.specs.declared.spot.BlockSpot.{BlockSpot}
-use Rattle.spec_base.specs.declared.spot.ReadSpot.{ReadSpot}
 use Rattle.rv_model.specs.Memory.{Memory, zeros}
 use Rattle.rv_model.specs.Effect.{fetched}
 use Rattle.rv_model.proofs.Loads.{loaded-stored}
-use Rattle.program_model.specs.Cache.{Gathered, gather, blocks_of, in_flight}
-use Rattle.program_model.specs.Calls.{CallPlan, Set, Look, Read, Write, Exit}
+use Rattle.program_model.specs.Cache.{in_flight}
+use Rattle.program_model.specs.Calls.{CallPlan}
 use Rattle.program_model.specs.PlainRun.{State}
 use Rattle.code_model.specs.Log.{log_head, log_tail}
-use Rattle.run_model.specs.Run.{World, Run, RunEnd, Answer, Usual, Took, Failed, Lost, opened_run, rewritten_text}
-use Rattle.run_model.specs.OwnMoves.{own_step, own_unless, own_in, own_call_step, read_on, look_done, write_step}
-use Rattle.run_model.specs.Moves.{Moves, step, step_unless, begun, silent, run, run_from, fetch_of, fetch_ends, fetch_failed, landed_with, shadow_while}
+use Rattle.run_model.specs.Run.{World, Run, RunEnd, Answer, opened_run, rewritten_text}
+use Rattle.run_model.specs.OwnMoves.{own_step, own_unless, own_in, own_call_step}
+use Rattle.run_model.specs.Moves.{Moves, step, step_unless, begun, silent, run, run_from, fetch_of, shadow_while}
 use Rattle.run_laws.specs.OwnLaws.{Accepted, IsShadowMove}
 use Rattle.run_model.specs.ShadowMoves.{shadow_step}
 use Rattle.run_laws.specs.StubLaws.{Appends, IsLog, IsLeaving, Passing, TakesOldest, RestartsFromBox, IsPassage, Outcome, keyless, takes, empties, without_oldest, leaves}
@@ -34,13 +32,15 @@ use Rattle.own_laws.proofs.StubWords.{stub_side}
 use Rattle.own_laws.proofs.StubRows.{WordGoes, to_row, to_restarted, to_call, word_goes}
 use Rattle.own_laws.proofs.Bounds.{Words}
 use Rattle.side_model.specs.Sees.{Shade, shade_of}
-use Rattle.rows_log.specs.CallRows.{IsSite}
+use Rattle.side_model.specs.Places.{IsInstruction}
 use Rattle.run_laws.specs.LogLaws.{ShadowAppends, StaysInStub, LogIsKept}
 use Rattle.shadow_laws.proofs.LogMoves.{Grows, Grows-same, Logged, ShadowMoved, one-more, shadow-moves, same-logged, own-logged, tail-small}
 use Rattle.shadow_laws.proofs.OwnShades.{Watched, watched_of, OwnShade, same, links, halts, begins, own-shade, fetch-shade, program_at-shade}
 use Rattle.shadow_laws.proofs.ShadowNumbers.{Sized, stock_of, run-sized}
-use Rattle.shadow_laws.proofs.ShadowRuns.{has-tables, run-keeps, gate-site, run-snoc, zeros-loaded}
+use Rattle.shadow_laws.proofs.ShadowRuns.{has-tables, run-keeps, gate-site, zeros-loaded}
 use Rattle.shadow_laws.proofs.Sound.{never_running}
+use Rattle.own_laws.proofs.OwnSteps.{own_call-by, fetch_of-by}
+use Rattle.own_laws.proofs.MoveLists.{run_from-snoc}
 
 -- ---- where the own hart is
 
@@ -68,46 +68,11 @@ outcome-log g (empties judged emptied t z k j n e b f) = record { order = omega 
 
 -- ---- views
 
-look_done-view : (w : World) (x : Answer) (r : Run) (name : List ℕ) → (look_done w x r name).view ≡ r.view
-look_done-view w Failed r name = refl
-look_done-view w Usual r name = refl
-look_done-view w (Took k) r name = refl
-look_done-view w Lost r name = refl
-
-read_on-view : (b : Bool) (w : World) (d : ℕ) (spot : ReadSpot) (a : ℕ) (g : Gathered) (r : Run) → (read_on b w d spot a g r).view ≡ r.view
-read_on-view true w d spot a g r = refl
-read_on-view false w d spot a g r = refl
-
-write_step-view : (w : World) (x : Answer) (r : Run) (to_out : Bool) (a n : ℕ) → (write_step w x r to_out a n).view ≡ r.view
-write_step-view w Failed r to_out a n = refl
-write_step-view w Usual r to_out a n = refl
-write_step-view w (Took k) r to_out a n = refl
-write_step-view w Lost r to_out a n = refl
-
 own_call-view : (w : World) (x : Answer) (r : Run) (c : CallPlan) → (own_call_step w x r c).view ≡ r.view
-own_call-view w x r (Set f answer) = refl
-own_call-view w x r (Look name) = look_done-view w x r name
-own_call-view w x r (Read d spot a) = let g : Gathered = gather r.cache r.gathered (drop r.gathered (blocks_of spot)) in read_on-view g.waits w d spot a g r
-own_call-view w x r (Write to_out a n) = write_step-view w x r to_out a n
-own_call-view w x r (Exit code) = refl
-
-landed-view : (o : Option BlockSpot) (r : Run) (notes : List Note) → (landed_with o r notes).view ≡ r.view
-landed-view (Some b) r notes = refl
-landed-view None r notes = refl
-
-failed-view : (o : Option BlockSpot) (r : Run) (spot : BlockSpot) → (fetch_failed o r spot).view ≡ r.view
-failed-view (Some b) r spot = refl
-failed-view None r spot = refl
-
-ends-view : (w : World) (x : Answer) (r : Run) (spot : BlockSpot) → (fetch_ends w x r spot).view ≡ r.view
-ends-view w Failed r spot = failed-view r.cache.demanded r spot
-ends-view w Lost r spot = landed-view r.cache.demanded r _
-ends-view w Usual r spot = landed-view r.cache.demanded r _
-ends-view w (Took k) r spot = landed-view r.cache.demanded r _
+own_call-view w x r c = own_call-by w r (λ next. next.view ≡ r.view) x c (λ b. refl) (λ taken whole b h. refl)
 
 fetch-view : (w : World) (o : Option BlockSpot) (x : Answer) (r : Run) → (fetch_of o w x r).view ≡ r.view
-fetch-view w None x r = refl
-fetch-view w (Some spot) x r = ends-view w x r spot
+fetch-view w o x r = fetch_of-by w x r (λ next. next.view ≡ r.view) (λ b. refl) o
 
 module _ (w : World) (a : Accepted w) where
   -- an own move out of the stub is its last word
@@ -162,7 +127,7 @@ module _ (w : World) (a : Accepted w) where
 
     -- the run behind it
     run-is : run w more ≡ next
-    run-is = run-snoc w a (opened_run w) before m
+    run-is = run_from-snoc w (opened_run w) before m
 
     sized : Sized (stock_of r)
     sized = run-sized w a before
@@ -180,7 +145,7 @@ module _ (w : World) (a : Accepted w) where
         → next.view ≡ Stub → (IsShadowMove m.0 → Appends r.shared next.shared) → OwnAt w more
     extends ms x on e p g h v f =
         let gate : Run = step w (run w ms) (O, x) in
-        passes ms x (on ++ m ∷ []) (run-snoc w a gate on m ∙ ap (λ (y : Run). step w y m) e ∙ sym run-is) p g
+        passes ms x (on ++ m ∷ []) (run_from-snoc w gate on m ∙ ap (λ (y : Run). step w y m) e ∙ sym run-is) p g
         (passing-snoc w gate on m h (ap (λ (y : Run). (step w y m).view) e ∙ v) (λ s. subst (λ (y : Run). Appends y.shared (step w y m).shared) (sym e) (f s)))
 
     -- a run that is over stays so
@@ -314,7 +279,7 @@ module _ (w : World) (a : Accepted w) where
         shade : OwnShade (run w before) gone
         shade = from-begun (subst (λ (y : Run). OwnShade (begun (run w before)) y) (sym is-own) (own-shade w x (begun (run w before))))
 
-        box : gone.restarts ≢ (run w before).restarts → IsSite w.image.layout (run w before).at_gate.pc × RestartsFromBox (run w before) gone
+        box : gone.restarts ≢ (run w before).restarts → IsInstruction w.image.layout (run w before).at_gate.pc × RestartsFromBox (run w before) gone
         box n = (gate-site w a x (begun (run w before)) z (own_side w a before) in-stub (λ f. n (ap (λ (y : Run). y.restarts) is-own ∙ f)), restart_has_box w a before x n)
 
         left-log : gone.view ≡ Program → IsLog gone.shared
@@ -407,7 +372,7 @@ module _ (w : World) (a : Accepted w) where
       moves : (n : Move) → step w r (n, x) ≡ shadow_step w x (begun r) → Grows r.shared (step w r (n, x)).shared
       moves n is =
           let words : Words (shade_of (shadow_step w x (begun r))).hart.registers =
-          subst (λ (y : Run). Words y.shadow.registers) (run-snoc w a (opened_run w) ms (n, x) ∙ is) (run-sized w a (ms ++ (n, x) ∷ [])).registers in
+          subst (λ (y : Run). Words y.shadow.registers) (run_from-snoc w (opened_run w) ms (n, x) ∙ is) (run-sized w a (ms ++ (n, x) ∷ [])).registers in
           subst (λ (y : Run). Grows r.shared y.shared) (sym is) (shadow-moves w a x (begun r) (length ms) (run-sized w a ms) words few (run-inv ms few).0).grows
 
       by_stall : (b : Bool) → r.stalled ≡ b → r.end ≡ None → Grows r.shared (step w r (T, x)).shared
@@ -449,7 +414,7 @@ module _ (w : World) (a : Accepted w) where
   stays-passing before (m ∷ on) r e few h = (
     h.0,
     λ s. subst (λ (y : Run). Appends y.shared (step w y m).shared) e (grows-at before m.0 m.1 s (omega (arith, few))).appends,
-    stays-passing (before ++ m ∷ []) on (step w r m) (run-snoc w a (opened_run w) before m ∙ ap (λ (y : Run). step w y m) e) (omega (arith, few, length-append before (m ∷ []))) h.1,
+    stays-passing (before ++ m ∷ []) on (step w r m) (run_from-snoc w (opened_run w) before m ∙ ap (λ (y : Run). step w y m) e) (omega (arith, few, length-append before (m ∷ []))) h.1,
   )
 
 -- ---- the laws
@@ -463,6 +428,6 @@ pub log_is_kept : LogIsKept
 log_is_kept w a ms x on few p stays leaving =
     let r : Run = run w ms in
     let gate : Run = step w r (O, x) in
-    let at : run w (ms ++ (O, x) ∷ []) ≡ gate = run-snoc w a (opened_run w) ms (O, x) in
+    let at : run w (ms ++ (O, x) ∷ []) ≡ gate = run_from-snoc w (opened_run w) ms (O, x) in
     let short : length ms < 2 ^ 64 - 1 = omega (arith, few) in
     stub_keeps_log w a ms x on p (log-at w a ms x (run-inv w a ms short).1 p (begins-in w a gate on stays)) (stays-passing w a (ms ++ (O, x) ∷ []) on gate at (omega (arith, few, length-append ms ((O, x) ∷ []))) stays) leaving

@@ -17,11 +17,11 @@ use Rattle.own_laws.proofs.Bounds.{Words}
 use Rattle.own_laws.proofs.Reached.{false_true}
 use Rattle.side_model.specs.Hart.{Regs, get, put, Priv}
 use Rattle.code_model.specs.Tables.{Tabs}
-use Rattle.side_model.specs.Places.{Place, InBlock, code}
+use Rattle.side_model.specs.Places.{Place, InBlock, code, IsInstruction}
 use Rattle.side_model.specs.Words.{Point, exec_some}
 use Rattle.side_model.specs.Rows.{Led}
 use Rattle.side_model.specs.Sees.{Shade, shade_of}
-use Rattle.rows_log.specs.CallRows.{IsSite, Stage, Before, AtStage, CallRow, KeyStep, keeps_key, finds_key, CallNext, word, call, CallArrives, LogIsFull}
+use Rattle.rows_log.specs.CallRows.{Stage, Before, AtStage, CallRow, KeyStep, keeps_key, finds_key, CallNext, word, call, CallArrives, LogIsFull}
 use Rattle.rows_log.specs.LinkWords.{stores_out}
 use Rattle.rows_log.specs.Queue.{LogStep, leaves, puts_key, puts_count, raises_tail, KeepsQueue, LeavesLink, Takes}
 use Rattle.rows_log.proofs.CallWords.{call_leads, call_starts, called_arrives, stages-stay}
@@ -111,7 +111,7 @@ module _ (w : World) (a : Accepted w) (x : Answer) (r : Run) (z : Sized (stock_o
   abbrev program : Memory
   program = program_byte l (rewritten_words w) r.own.memory
 
-  module _ {n : ℕ} (p : ℕ) (q : Regs) (is : IsSite l p) (at : At w (block_at l p) (block l p Ecall) (logged_calls w p q) (shade_of r) n) where
+  module _ {n : ℕ} (p : ℕ) (q : Regs) (is : IsInstruction l p) (at : At w (block_at l p) (block l p Ecall) (logged_calls w p q) (shade_of r) n) where
     -- a word up to the HCALL
     call-led : (tail key : ℕ) (stage : Stage) → CallRow l p q tail key at.point.place at.point.regs at.point.priv stage n → AtStage tail (get 12 q) stage r.shared → key < 2 ^ 64 → get 12 q < 2 ^ 64
         → Led l program (block_at l p) (CallNext l p q tail key at.point.place stage at.point.tabs r.shared) (λ target rs t m. ⊥) (LogIsFull key at.point.place stage at.point.tabs r.shared) n

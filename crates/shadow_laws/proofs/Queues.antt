@@ -1,7 +1,6 @@
 -- In every run of fewer than 2^64 - 1 moves the hint log is a queue, but between words 30 and 31 of the stub.
-use Rattle.std.proofs.Common.{◌≡◌, ℕ, ◌+◌, ◌-◌, ◌*◌, ◌^◌, ◌<◌, ◌⊎◌, inl, inr, [], ◌∷◌, ◌++◌, length, refl, ◌∙◌, ap, sym, subst, arith, lit<}
+use Rattle.std.proofs.Common.{◌≡◌, ◌+◌, ◌-◌, ◌^◌, ◌<◌, ◌⊎◌, inl, inr, [], ◌∷◌, ◌++◌, length, refl, ◌∙◌, ap, sym, subst, arith, lit<}
 use Rattle.std.proofs.lemmas.List.{length-append, append-nil, append_assoc}
-use Rattle.spec_base.specs.declared.machine.View.TheVariants.{Stub}
 use Rattle.spec_base.specs.declared.note.ShadowState.{ShadowState}
 use Rattle.spec_base.specs.declared.note.ShadowState.TheVariants.{Never, Running, Stopped, Parked}
 use Rattle.spec_base.specs.declared.note.Move.{Move}
@@ -14,10 +13,10 @@ use Rattle.run_laws.specs.OwnLaws.{Accepted}
 use Rattle.run_laws.specs.StubLaws.{IsEmpty}
 use Rattle.run_laws.specs.LogLaws.{IsEmptying, LogIsQueue, EmptyingLeavesTail}
 use Rattle.own_laws.proofs.Held.{Level, free, halted, headless, emptied, boxing, level, Held, IsFree, IsHalted, IsHeadless, level-headless}
-use Rattle.own_laws.proofs.HeldRuns.{Place, place_of, spot, IsHolding, HeldAt, OwnWord, at_place, at_free, at_words, at_restart, one-word, free-runs, word-runs, run-held, own-words, fetch-places, stopped-place}
+use Rattle.own_laws.proofs.HeldRuns.{Place, place_of, HeldAt, OwnWord, at_place, at_free, at_words, at_restart, free-runs, word-runs, run-held, own-words, fetch-places, stopped-place}
+use Rattle.own_laws.proofs.MoveLists.{run_from-snoc}
 use Rattle.shadow_laws.proofs.LogRuns.{run-inv}
-use Rattle.shadow_laws.proofs.ShadowRuns.{run-snoc}
-use Rattle.shadow_laws.proofs.Sound.{stopped_running, never_running, parked_running}
+use Rattle.shadow_laws.proofs.Sound.{stopped_running}
 
 -- a queue, but between words 30 and 31
 abbrev Queued : Run → Type 0
@@ -92,7 +91,7 @@ module _ (w : World) (a : Accepted w) where
       then = before ++ m ∷ []
 
       is : run w then ≡ step w (run w before) m
-      is = run-snoc w a (opened_run w) before m
+      is = run_from-snoc w (opened_run w) before m
 
       by_state : ((run w then).shadow.state ≡ Stopped) ⊎ ((run w then).shadow.state ≡ Stopped → ⊥) → Queued (run w then)
       by_state (inr n) = inl ((run-inv w a then (omega (arith, few, length-append before (m ∷ [])))).0.queue n).0

@@ -7,7 +7,7 @@ use Rattle.std.proofs.lemmas.Bool.Decides.{nat_tests}
 use Rattle.spec_base.specs.Word.{byte_of}
 use Rattle.spec_base.specs.Layout.{list_start, shadow_start, helpers_start}
 use Rattle.spec_base.specs.declared.layout.Layout.{Layout}
-use Rattle.spec_base.specs.declared.machine.View.TheVariants.{Stub, Shadow}
+use Rattle.spec_base.specs.declared.machine.View.TheVariants.{Stub}
 use Rattle.spec_base.specs.declared.note.ShadowState.{ShadowState}
 use Rattle.spec_base.specs.declared.note.ShadowState.TheVariants.{Never, Running, Stopped, Parked}
 use Rattle.spec_base.specs.declared.note.Move.{Move}
@@ -19,9 +19,8 @@ use Rattle.rv_decode.specs.declared.instr.Instr.TheVariants.{Hkey, Hcall, Hpark}
 use Rattle.rv_decode.specs.declared.instr.Instr.TheVariants.{Ecall}
 use Rattle.rv_decode.specs.Instruction.{instr_of}
 use Rattle.rv_model.specs.Memory.{Memory, zeros, loaded}
-use Rattle.rv_model.specs.Rights.{in_private, shadow_rights}
-use Rattle.rv_model.specs.Effect.{Effect, Next, Stored, Trapped, Called, Gated, effect, fetched}
-use Rattle.rv_model.specs.Space.{shadow_sees}
+use Rattle.rv_model.specs.Rights.{in_private}
+use Rattle.rv_model.specs.Effect.{Effect, Next, Stored, Trapped, Called, Gated, fetched}
 use Rattle.rv_model.specs.Space.{program_byte}
 use Rattle.program_model.specs.Cache.{in_flight}
 use Rattle.program_model.specs.Calls.{CallPlan, Set, Look, Read, Write, Exit}
@@ -43,7 +42,7 @@ use Rattle.own_laws.proofs.OwnLaws.{own_side}
 use Rattle.own_laws.proofs.OwnSide.{OwnSide, in_program, in_stub, at_call, waits, called, over, AtCall, placed}
 use Rattle.own_laws.proofs.Reached.{none_some, false_true}
 use Rattle.own_laws.proofs.Side.{side_of, Tally}
-use Rattle.side_model.specs.Places.{InHelper, Restarting, HasBlock}
+use Rattle.side_model.specs.Places.{InHelper, Restarting, HasBlock, IsInstruction}
 use Rattle.side_model.specs.Sees.{shade_of}
 use Rattle.code_model.specs.Tables.{Tabs, tabs_of, TableOk}
 use Rattle.side_model.specs.Tables.{HasTabs}
@@ -52,7 +51,6 @@ use Rattle.side_model.proofs.Private.{priv_of, HasPriv-of}
 use Rattle.side_model.proofs.Registers.{regs_of, HasRegs-of}
 use Rattle.side_model.proofs.Tabling.{HasTabs-below, HasTabs-of, are-consistent}
 use Rattle.side_model.specs.Hart.{Regs}
-use Rattle.rows_log.specs.CallRows.{IsSite}
 use Rattle.rows_log.specs.RestartRows.{HasBox, RestartRow}
 use Rattle.rows_log.proofs.RestartWords.{restart_starts}
 use Rattle.shadow_laws.proofs.OwnShades.{Watched, watched_of, with_shared, begun_anew, OwnShade, same, links, halts, begins, own-shade, fetch-shade}
@@ -64,6 +62,8 @@ use Rattle.shadow_laws.proofs.SoundSteps.{next as step-to}
 use Rattle.shadow_laws.proofs.AnyCalls.{AnyCallRow, b1, next-row, any_call-leads}
 use Rattle.run_laws.specs.SoundLaws.{TablesAreConsistent}
 use Rattle.shadow_laws.proofs.TextBlocks.{text}
+use Rattle.own_laws.proofs.MoveLists.{run_from-snoc}
+use Rattle.own_laws.proofs.InvisibleShadow.{shadow_effect}
 
 -- ---- what a word counts
 
@@ -144,7 +144,7 @@ arrived-counted w r y false e f =
 word-counted : (w : World) (x : Answer) (r : Run) (o : Option Instr) → Counted w r (word_counted (shadow_at_word w x r o))
 word-counted w x r None = record { words = refl; regions = refl; most = omega arith; arrives = λ s h. parked_running s }
 word-counted w x r (Some i) =
-    let e : Effect = effect Shadow (shadow_rights w.image.layout) (shadow_sees w.image.layout (rewritten_words w) r.own.memory r.shared r.shadow_page) r.shadow.registers r.shadow.pc i in
+    let e : Effect = shadow_effect w r i in
     arrived-counted w r (shadow_after w x r e) _ (after-counts w x r e) refl
 
 pub running-counted : (w : World) (x : Answer) (r : Run) → r.shadow.state ≡ Running → Counted w r (shadow_step w x r)
@@ -204,7 +204,7 @@ module _ (w : World) (a : Accepted w) where
       any-start : Starts (any_calls w) (shade_of next)
       any-start p q s t e = b1 s
 
-      calls : (p : ℕ) (q : Regs) → IsSite l p → At w (block_at l p) (block l p Ecall) (any_calls w p q) (shade_of r) n → Lands w (any_calls w) n (shade_of next)
+      calls : (p : ℕ) (q : Regs) → IsInstruction l p → At w (block_at l p) (block l p Ecall) (any_calls w p q) (shade_of r) n → Lands w (any_calls w) n (shade_of next)
       calls p q is at =
           settles w a x r z (any_calls w) any-start (λ s k row v ok. calling p q is (step-to w a x r z at s v ok (next-row l p q row)))
           (landed w a x r z at (any_call-leads l p q (program_byte l (rewritten_words w) r.own.memory) is r.shared at.ok at.row))
@@ -234,10 +234,10 @@ module _ (w : World) (a : Accepted w) where
   -- ---- an own move
 
   -- a state that is about to call stands at an instruction of the text
-  pub call-site : (q : State) → ((i : Instr) → fetched (text_of w.image) l.text_start q.pc ≡ Some i → IsSite l q.pc)
+  pub call-site : (q : State) → ((i : Instr) → fetched (text_of w.image) l.text_start q.pc ≡ Some i → IsInstruction l q.pc)
   call-site q i e = by_test (nat_le l.text_start q.pc && (q.pc % 4 == 0)) refl e
     where
-      by_test : (b : Bool) → (nat_le l.text_start q.pc && (q.pc % 4 == 0)) ≡ b → elim b [ true ↦ slice_get (text_of w.image) ((q.pc - l.text_start) / 4) | false ↦ None ] ≡ Some i → IsSite l q.pc
+      by_test : (b : Bool) → (nat_le l.text_start q.pc && (q.pc % 4 == 0)) ≡ b → elim b [ true ↦ slice_get (text_of w.image) ((q.pc - l.text_start) / 4) | false ↦ None ] ≡ Some i → IsInstruction l q.pc
       by_test true f e =
           let above : l.text_start ≤ q.pc = grind (arith, nat_tests, f) in
           let whole : q.pc % 4 ≡ 0 = grind (arith, nat_tests, f) in
@@ -246,10 +246,10 @@ module _ (w : World) (a : Accepted w) where
           record { lawful = a.lawful; above = above; below = omega (arith, inside, length-map w.image.words instr_of, a.text, above, whole, f.start); whole = whole }
       by_test false f e = none_some e
 
-  at-call : (t : Tally) (q : State) → AtCall w t q → IsSite l q.pc
+  at-call : (t : Tally) (q : State) → AtCall w t q → IsInstruction l q.pc
   at-call t q g = by_word (fetched (text_of w.image) l.text_start q.pc) refl
     where
-      by_word : (o : Option Instr) → fetched (text_of w.image) l.text_start q.pc ≡ o → IsSite l q.pc
+      by_word : (o : Option Instr) → fetched (text_of w.image) l.text_start q.pc ≡ o → IsInstruction l q.pc
       by_word (Some i) e = call-site q i e
       by_word None e = absurd (no (sym (ap (at_word w.image w.files all_taken q) e) ∙ g.calls all_taken))
         where
@@ -257,16 +257,16 @@ module _ (w : World) (a : Accepted w) where
           no e = cc
 
   -- a restart is made for a call
-  pub gate-site : (x : Answer) (r : Run) → r.end ≡ None → OwnSide w (side_of r) → r.view ≡ Stub → (own_step w x r).restarts ≢ r.restarts → IsSite l r.at_gate.pc
+  pub gate-site : (x : Answer) (r : Run) → r.end ≡ None → OwnSide w (side_of r) → r.view ≡ Stub → (own_step w x r).restarts ≢ r.restarts → IsInstruction l r.at_gate.pc
   gate-site x r z (in_program t site gate s page h f is) v n = program_stub (sym (ap (λ p. p.view) is) ∙ v)
-  gate-site x r z (in_stub t q k b c d page g row most is) v n = subst (λ (s : State). IsSite l s.pc) (sym (ap (λ p. p.gate) is)) (at-call t q g)
-  gate-site x r z (at_call t q page g is) v n = subst (λ (s : State). IsSite l s.pc) (sym (ap (λ p. p.gate) is)) (at-call t q g)
-  gate-site x r z (waits t q page g is) v n = subst (λ (s : State). IsSite l s.pc) (sym (ap (λ p. p.gate) is)) (at-call t q g)
+  gate-site x r z (in_stub t q k b c d page g row most is) v n = subst (λ (s : State). IsInstruction l s.pc) (sym (ap (λ p. p.gate) is)) (at-call t q g)
+  gate-site x r z (at_call t q page g is) v n = subst (λ (s : State). IsInstruction l s.pc) (sym (ap (λ p. p.gate) is)) (at-call t q g)
+  gate-site x r z (waits t q page g is) v n = subst (λ (s : State). IsInstruction l s.pc) (sym (ap (λ p. p.gate) is)) (at-call t q g)
   gate-site x r z (called t q s k page h f y e is) v n = absurd (placed w (λ r. (own_step w x r).restarts ≢ r.restarts → ⊥) r _ is (λ n. n refl) n)
   gate-site x r z (over s e h o) v n = none_some (sym z ∙ o.ended)
 
   -- the block behind the call of a restart
-  pub restart-target : (r : Run) → IsSite l r.at_gate.pc → Target w (r.at_gate.pc + 4) (regs_of r.at_gate.registers)
+  pub restart-target : (r : Run) → IsInstruction l r.at_gate.pc → Target w (r.at_gate.pc + 4) (regs_of r.at_gate.registers)
   restart-target r is = target-of w a (r.at_gate.pc + 4) (regs_of r.at_gate.registers) (let f : TextFits l = text w a in omega (arith, is.below, f.below))
 
   -- the box that a state's call has filled
@@ -286,14 +286,14 @@ module _ (w : World) (a : Accepted w) where
       }
 
   -- that is a row of a shadow
-  pub restart-sound : (C : CallRows) (r next : Run) (t : Tabs) → HasTabs l r.shared t → TableOk l t → IsSite l r.at_gate.pc → RestartsFromBox r next → Sound w C (begun_anew r).shade (63 + 5 * t.count)
+  pub restart-sound : (C : CallRows) (r next : Run) (t : Tabs) → HasTabs l r.shared t → TableOk l t → IsInstruction l r.at_gate.pc → RestartsFromBox r next → Sound w C (begun_anew r).shade (63 + 5 * t.count)
   restart-sound C r next t has ok is box =
       let q = regs_of r.at_gate.registers in
       let target : Target w (r.at_gate.pc + 4) q = restart-target r is in
       let filled : HasBox r.shared r.at_gate.pc q = subst (λ m. HasBox m r.at_gate.pc q) box.left (has-box next.shared r.at_gate box.boxed) in
       restarting r.at_gate.pc q target.base target.words is target.fits (restart-at r t has ok filled target)
 
-  restarted-stands : (r next : Run) → HasTables w (watched_of r) → IsSite l r.at_gate.pc → RestartsFromBox r next → watched_of next ≡ begun_anew r → Kept w (watched_of next)
+  restarted-stands : (r next : Run) → HasTables w (watched_of r) → IsInstruction l r.at_gate.pc → RestartsFromBox r next → watched_of next ≡ begun_anew r → Kept w (watched_of next)
   restarted-stands r next y is box e =
       subst (λ s. Kept w s) (sym e) (runs (63 + 5 * y.tables.count) (restart-sound (any_calls w) r next y.tables y.has y.ok is box) (omega (arith, y.has.count)))
 
@@ -305,7 +305,7 @@ module _ (w : World) (a : Accepted w) where
       subst (λ s. Kept w s) (sym is) (runs n (subst (λ m. Sound w (any_calls w) (record (shade_of r) { shared = m }) n) (sym e ∙ ap (λ (s : Watched). s.shade.shared) is) (sound-stays w a (any_calls w) (shade_of r) n v (λ p q at. at.row) h)) few)
   runs-on r next n h few (is_stopped e) m is = stopped_running (sym e ∙ (stands w h).running)
 
-  own-keeps : (r next : Run) → OwnShade r next → LeavesLink r next → (r.view ≡ Stub → next.restarts ≢ r.restarts → IsSite l r.at_gate.pc) → (next.restarts ≢ r.restarts → RestartsFromBox r next)
+  own-keeps : (r next : Run) → OwnShade r next → LeavesLink r next → (r.view ≡ Stub → next.restarts ≢ r.restarts → IsInstruction l r.at_gate.pc) → (next.restarts ≢ r.restarts → RestartsFromBox r next)
       → Kept w (watched_of r) → Kept w (watched_of next)
   own-keeps r next (same e) link site box k = subst (λ s. Kept w s) (sym e) k
   own-keeps r next (links b width v low e) link site box (runs n h few) = runs-on r next n h few link _ e
@@ -348,17 +348,11 @@ module _ (w : World) (a : Accepted w) where
       by_end None z T f = while-keeps r.stalled x (begun r) (run-sized w a before) k
       by_end None z D f = subst (λ s. Kept w s) (sym (fetch-shade w (in_flight r.cache) x (begun r))) k
 
-  -- one move more
-  pub run-snoc : (r : Run) (ms : Moves) (m : Move × Answer) → run_from w r (ms ++ m ∷ []) ≡ step w (run_from w r ms) m
-  unfolding run_from
-  run-snoc r [] m = refl
-  run-snoc r (n ∷ ms) m = run-snoc (step w r n) ms m
-
   run_from-keeps : (ms before : Moves) (r : Run) → run w before ≡ r → Kept w (watched_of r) → Kept w (watched_of (run_from w r ms))
   unfolding run_from
   run_from-keeps [] before r e k = k
   run_from-keeps (m ∷ ms) before r e k =
-      let one : run w (before ++ m ∷ []) ≡ step w r m = run-snoc (opened_run w) before m ∙ ap (λ r. step w r m) e in
+      let one : run w (before ++ m ∷ []) ≡ step w r m = run_from-snoc w (opened_run w) before m ∙ ap (λ r. step w r m) e in
       run_from-keeps ms (before ++ m ∷ []) (step w r m) one
       (subst (λ r. Kept w (watched_of (step w r m))) e (move-keeps before m (subst (λ r. Kept w (watched_of r)) (sym e) k)))
 

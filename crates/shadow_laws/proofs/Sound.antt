@@ -1,5 +1,5 @@
 -- Where a running shadow stands: at a word of a block or a helper, with what its row says. Each of its words leads to such a place again, or parks.
-use Rattle.std.proofs.Common.{◌≡◌, ℕ, ◌+◌, ◌^◌, ◌≤◌, ◌<◌, ◌⊎◌, inl, inr, Bool, true, false, ℤ, List, [], slice_get, Option, Some, None, refl, ◌∙◌, sym, arith}
+use Rattle.std.proofs.Common.{◌≡◌, ℕ, ◌+◌, ◌^◌, ◌≤◌, ◌<◌, ◌⊎◌, inl, inr, Bool, true, false, ℤ, List, [], slice_get, Option, Some, None, refl, ◌∙◌, sym, arith, ◌≢◌}
 use Rattle.spec_base.specs.Word.{plus_int}
 use Rattle.spec_base.specs.declared.layout.Layout.{Layout}
 use Rattle.spec_base.specs.declared.note.ShadowState.TheVariants.{Never, Running, Stopped, Parked}
@@ -21,18 +21,16 @@ use Rattle.own_laws.proofs.Reached.{false_true}
 use Rattle.side_model.specs.Hart.{Regs, Priv}
 use Rattle.code_model.specs.Tables.{Tabs, TableOk}
 use Rattle.side_model.specs.Tables.{HasTabs}
-use Rattle.side_model.specs.Places.{Place, InBlock, InHelper, Away, address, code, HasBlock}
+use Rattle.side_model.specs.Places.{Place, InBlock, InHelper, Away, address, code, HasBlock, IsInstruction}
 use Rattle.side_model.specs.Words.{Point}
 use Rattle.side_model.specs.Sees.{Shade, Sees, HasRegs}
-use Rattle.side_model.specs.JumpRows.{JumpRow, j1, j2, j3, j4, j5, j6, j7, j8, j9, j10, j11, j12, j13, j14, j15, j16, lands, faults, JumpFits}
+use Rattle.side_model.specs.JumpRows.{JumpRow, j1, lands, JumpFits}
 use Rattle.side_model.proofs.Fetching.{CodeAt, no_code}
 use Rattle.side_model.proofs.Numbers.{TextFits, IsInText, target-inside}
-use Rattle.rows_access.specs.Accesses as access
 use Rattle.rows_access.specs.LoadRows.{LoadsRow}
 use Rattle.rows_access.specs.StoreRows.{StoresRow}
 use Rattle.rows_access.proofs.LoadWords.{load_starts}
 use Rattle.rows_access.proofs.StoreWords.{store_starts}
-use Rattle.rows_flow.specs.Following.{IsInstruction}
 use Rattle.rows_flow.specs.PlainRows.{Computes, a_lui, an_imm, an_imm_w, an_op, an_op_w, a_fence, PlainRow, AuipcRow, Stops, at_ebreak, at_gate, at_leave, at_site, at_key, at_stop, at_restart, at_call, at_halt, at_illegal, ParkRow}
 use Rattle.rows_flow.specs.BranchRows.{BranchRow}
 use Rattle.rows_flow.specs.JalRows.{JalRow, PadRow, pad}
@@ -41,7 +39,6 @@ use Rattle.rows_flow.proofs.PlainWords.{plain_starts, auipc_starts, park_starts}
 use Rattle.rows_flow.proofs.BranchWords.{branch_starts}
 use Rattle.rows_flow.proofs.JalWords.{jal_starts}
 use Rattle.rows_flow.proofs.JalrWords.{jalr_starts}
-use Rattle.rows_log.specs.CallRows.{IsSite}
 use Rattle.rows_log.specs.RestartRows.{HasBox, RestartRow, RestartedRow}
 use Rattle.shadow_laws.proofs.TextBlocks.{InText, at-address, at-block, text}
 
@@ -115,14 +112,14 @@ pub data Sound (w : World) (Calling : CallRows) (h : Shade) (n : ℕ) : Type 0 w
   parking : (p : ℕ) (i : Instr) (q : Regs) → IsInstruction w.image.layout p → Stops i
       → At w (block_at w.image.layout p) (block w.image.layout p i) (bare (ParkRow q)) h n → Sound w Calling h n
   guarded : (q : Regs) → At w (block_at w.image.layout w.image.layout.text_end) guard_block (bare (ParkRow q)) h n → Sound w Calling h n
-  loading : (p : ℕ) (op : LoadOp) (rd rs1 : ℕ) (imm : ℤ) (q : Regs) → access.IsInstruction w.image.layout p
+  loading : (p : ℕ) (op : LoadOp) (rd rs1 : ℕ) (imm : ℤ) (q : Regs) → IsInstruction w.image.layout p
       → At w (block_at w.image.layout p) (block w.image.layout p (Load op rd rs1 imm)) (bare (LoadsRow w.image.layout p op rd rs1 imm q None)) h n → Sound w Calling h n
-  storing : (p : ℕ) (op : StoreOp) (rs1 rs2 : ℕ) (imm : ℤ) (q : Regs) (t0 : Tabs) → access.IsInstruction w.image.layout p
+  storing : (p : ℕ) (op : StoreOp) (rs1 rs2 : ℕ) (imm : ℤ) (q : Regs) (t0 : Tabs) → IsInstruction w.image.layout p
       → At w (block_at w.image.layout p) (block w.image.layout p (Store op rs1 rs2 imm)) (StoresRow w.image.layout p op rs1 rs2 imm q unknown zeros t0) h n → Sound w Calling h n
-  calling : (p : ℕ) (q : Regs) → IsSite w.image.layout p → At w (block_at w.image.layout p) (block w.image.layout p Ecall) (Calling p q) h n → Sound w Calling h n
-  restarting : (site : ℕ) (q : Regs) (base : ℕ) (words : List Instr) → IsSite w.image.layout site → JumpFits w.image.layout (site + 4) q base words
+  calling : (p : ℕ) (q : Regs) → IsInstruction w.image.layout p → At w (block_at w.image.layout p) (block w.image.layout p Ecall) (Calling p q) h n → Sound w Calling h n
+  restarting : (site : ℕ) (q : Regs) (base : ℕ) (words : List Instr) → IsInstruction w.image.layout site → JumpFits w.image.layout (site + 4) q base words
       → At w base words (λ place rs s t m k. RestartRow w.image.layout site q place rs s t k × HasBox m site q) h n → Sound w Calling h n
-  unboxing : (site : ℕ) (q : Regs) (base : ℕ) (words : List Instr) → IsSite w.image.layout site → JumpFits w.image.layout (site + 4) q base words
+  unboxing : (site : ℕ) (q : Regs) (base : ℕ) (words : List Instr) → IsInstruction w.image.layout site → JumpFits w.image.layout (site + 4) q base words
       → At w base words (bare (RestartedRow w.image.layout site q)) h n → Sound w Calling h n
 
 -- what is so at each row
@@ -153,6 +150,50 @@ module _ (w : World) where
   stands (calling p q is at) = stands-at at
   stands (restarting site q base words is fits at) = stands-at at
   stands (unboxing site q base words is fits at) = stands-at at
+
+-- ---- kinds of blocks
+
+-- the instructions by the rows of their blocks
+pub data Kind : Instr → Type 0 where
+  is_computing : {i : Instr} → Computes i → Kind i
+  is_stopping : {i : Instr} → Stops i → Kind i
+  is_auipc : (rd : ℕ) (imm : ℤ) → Kind (Auipc rd imm)
+  is_jal : (rd : ℕ) (imm : ℤ) → Kind (Jal rd imm)
+  is_jalr : (rd rs1 : ℕ) (imm : ℤ) → Kind (Jalr rd rs1 imm)
+  is_branch : (op : BranchOp) (rs1 rs2 : ℕ) (imm : ℤ) → Kind (Branch op rs1 rs2 imm)
+  is_load : (op : LoadOp) (rd rs1 : ℕ) (imm : ℤ) → Kind (Load op rd rs1 imm)
+  is_store : (op : StoreOp) (rs1 rs2 : ℕ) (imm : ℤ) → Kind (Store op rs1 rs2 imm)
+  is_ecall : Kind Ecall
+
+-- each instruction has one
+pub kind-of : (i : Instr) → Kind i
+kind-of (Lui rd imm) = is_computing (a_lui rd imm)
+kind-of (OpImm op rd rs1 imm) = is_computing (an_imm op rd rs1 imm)
+kind-of (OpImmW op rd rs1 imm) = is_computing (an_imm_w op rd rs1 imm)
+kind-of (Op op rd rs1 rs2) = is_computing (an_op op rd rs1 rs2)
+kind-of (OpW op rd rs1 rs2) = is_computing (an_op_w op rd rs1 rs2)
+kind-of (Fence number) = is_computing (a_fence number)
+kind-of (Auipc rd imm) = is_auipc rd imm
+kind-of (Jal rd imm) = is_jal rd imm
+kind-of (Jalr rd rs1 imm) = is_jalr rd rs1 imm
+kind-of (Branch op rs1 rs2 imm) = is_branch op rs1 rs2 imm
+kind-of (Load op rd rs1 imm) = is_load op rd rs1 imm
+kind-of (Store op rs1 rs2 imm) = is_store op rs1 rs2 imm
+kind-of Ecall = is_ecall
+kind-of Ebreak = is_stopping at_ebreak
+kind-of Hgate = is_stopping at_gate
+kind-of Hleave = is_stopping at_leave
+kind-of (Hsite rd) = is_stopping (at_site rd)
+kind-of (Hkey rd) = is_stopping (at_key rd)
+kind-of Hstop = is_stopping at_stop
+kind-of Hrestart = is_stopping at_restart
+kind-of (Hcall unhinted) = is_stopping (at_call unhinted)
+kind-of (Hpark cause) = is_stopping (at_halt cause)
+kind-of Illegal = is_stopping at_illegal
+
+-- AUIPC is another instruction than ILLEGAL
+pub auipc-legal : (rd : ℕ) (imm : ℤ) → Auipc rd imm ≢ Illegal
+auipc-legal rd imm e = cc
 
 -- ---- targets of JUMP
 
@@ -196,14 +237,8 @@ module _ (w : World) (a : Accepted w) where
   -- ---- a block begins
 
   -- an instruction of the text stands there, as the rows say it
-  pub flow-is : {p : ℕ} {i : Instr} → InText w p i → IsInstruction l p
-  flow-is is = record { lawful = a.lawful; above = is.above; below = is.below; whole = is.whole }
-
-  pub access-is : {p : ℕ} {i : Instr} → InText w p i → access.IsInstruction l p
-  access-is is = record { lawful = a.lawful; above = is.above; below = is.below; whole = is.whole }
-
-  pub site-is : {p : ℕ} {i : Instr} → InText w p i → IsSite l p
-  site-is is = record { lawful = a.lawful; above = is.above; below = is.below; whole = is.whole }
+  pub instruction-is : {p : ℕ} {i : Instr} → InText w p i → IsInstruction l p
+  instruction-is is = record { lawful = a.lawful; above = is.above; below = is.below; whole = is.whole }
 
   -- at word 1 of its block
   unfoldable pub at-first : {p : ℕ} {h : Shade} (s : Point) → TableOk l s.tabs → (i : Instr) (Row : Place → Regs → Priv → Tabs → Memory → ℕ → Type 0) (n : ℕ) → InText w p i
@@ -217,60 +252,38 @@ module _ (w : World) (a : Accepted w) where
     abbrev v1 : Type 0
     v1 = Sees l (block_at l p) h (record s { place = InBlock 1 }) h.shared
 
-    computes : (i : Instr) → Computes i → InText w p i → v1 → Begun
-    computes i c is v = (2, omega arith, computing p i s.regs (flow-is is) c (at-first s ok i (bare (PlainRow i s.regs)) 2 is v (plain_starts i s.regs s.priv s.tabs)))
-
-    stops : (i : Instr) → Stops i → InText w p i → v1 → Begun
-    stops i c is v = (1, omega arith, parking p i s.regs (flow-is is) c (at-first s ok i (bare (ParkRow s.regs)) 1 is v (park_starts s.regs s.priv s.tabs)))
-
-    by-instr : (i : Instr) → InText w p i → v1 → Begun
-    by-instr (Lui rd imm) is v = computes (Lui rd imm) (a_lui rd imm) is v
-    by-instr (OpImm op rd rs1 imm) is v = computes (OpImm op rd rs1 imm) (an_imm op rd rs1 imm) is v
-    by-instr (OpImmW op rd rs1 imm) is v = computes (OpImmW op rd rs1 imm) (an_imm_w op rd rs1 imm) is v
-    by-instr (Op op rd rs1 rs2) is v = computes (Op op rd rs1 rs2) (an_op op rd rs1 rs2) is v
-    by-instr (OpW op rd rs1 rs2) is v = computes (OpW op rd rs1 rs2) (an_op_w op rd rs1 rs2) is v
-    by-instr (Fence number) is v = computes (Fence number) (a_fence number) is v
-    by-instr (Auipc rd imm) is v = (
+    by-kind : {i : Instr} → Kind i → InText w p i → v1 → Begun
+    by-kind {i} (is_computing c) is v =
+        (2, omega arith, computing p i s.regs (instruction-is is) c (at-first s ok i (bare (PlainRow i s.regs)) 2 is v (plain_starts i s.regs s.priv s.tabs)))
+    by-kind {i} (is_stopping c) is v = (1, omega arith, parking p i s.regs (instruction-is is) c (at-first s ok i (bare (ParkRow s.regs)) 1 is v (park_starts s.regs s.priv s.tabs)))
+    by-kind (is_auipc rd imm) is v = (
       4,
       omega arith,
-      quartering p rd imm s.regs (flow-is is) (is.encodable (λ e. not_illegal e))
+      quartering p rd imm s.regs (instruction-is is) (is.encodable (auipc-legal rd imm))
           (at-first s ok (Auipc rd imm) (bare (AuipcRow rd (plus_int p imm) s.regs)) 4 is v (auipc_starts rd (plus_int p imm) s.regs s.priv s.tabs)),
     )
-      where
-        not_illegal : Auipc rd imm ≡ Illegal → ⊥
-        not_illegal e = cc
-    by-instr (Jal rd imm) is v =
-        (6, omega arith, linking p rd imm s.regs (flow-is is) (at-first s ok (Jal rd imm) (bare (JalRow l p rd (plus_int p imm) s.regs)) 6 is v (jal_starts l p rd (plus_int p imm) s.regs s.priv s.tabs)))
-    by-instr (Jalr rd rs1 imm) is v =
-        (25, omega arith, going p rd rs1 imm s.regs (flow-is is) (at-first s ok (Jalr rd rs1 imm) (bare (JalrRow l p rd rs1 imm s.regs)) 25 is v (jalr_starts l p rd rs1 imm s.regs s.priv s.tabs)))
-    by-instr (Branch op rs1 rs2 imm) is v = (
+    by-kind (is_jal rd imm) is v =
+        (6, omega arith, linking p rd imm s.regs (instruction-is is) (at-first s ok (Jal rd imm) (bare (JalRow l p rd (plus_int p imm) s.regs)) 6 is v (jal_starts l p rd (plus_int p imm) s.regs s.priv s.tabs)))
+    by-kind (is_jalr rd rs1 imm) is v =
+        (25, omega arith, going p rd rs1 imm s.regs (instruction-is is) (at-first s ok (Jalr rd rs1 imm) (bare (JalrRow l p rd rs1 imm s.regs)) 25 is v (jalr_starts l p rd rs1 imm s.regs s.priv s.tabs)))
+    by-kind (is_branch op rs1 rs2 imm) is v = (
       2,
       omega arith,
-      branching p op rs1 rs2 imm s.regs (flow-is is) (at-first s ok (Branch op rs1 rs2 imm) (bare (BranchRow op rs1 rs2 s.regs)) 2 is v (branch_starts op rs1 rs2 s.regs s.priv s.tabs)),
+      branching p op rs1 rs2 imm s.regs (instruction-is is) (at-first s ok (Branch op rs1 rs2 imm) (bare (BranchRow op rs1 rs2 s.regs)) 2 is v (branch_starts op rs1 rs2 s.regs s.priv s.tabs)),
     )
-    by-instr (Load op rd rs1 imm) is v = (
+    by-kind (is_load op rd rs1 imm) is v = (
       227,
       omega arith,
-      loading p op rd rs1 imm s.regs (access-is is)
+      loading p op rd rs1 imm s.regs (instruction-is is)
           (at-first s ok (Load op rd rs1 imm) (bare (LoadsRow l p op rd rs1 imm s.regs None)) 227 is v (load_starts l p op rd rs1 imm s.regs None s.priv s.tabs)),
     )
-    by-instr (Store op rs1 rs2 imm) is v = (
+    by-kind (is_store op rs1 rs2 imm) is v = (
       227,
       omega arith,
-      storing p op rs1 rs2 imm s.regs s.tabs (access-is is)
+      storing p op rs1 rs2 imm s.regs s.tabs (instruction-is is)
           (at-first s ok (Store op rs1 rs2 imm) (StoresRow l p op rs1 rs2 imm s.regs unknown zeros s.tabs) 227 is v (store_starts l p op rs1 rs2 imm s.regs unknown zeros s.priv s.tabs h.shared (λ x i j. tt))),
     )
-    by-instr Ecall is v = (31, omega arith, calling p s.regs (site-is is) (at-first s ok Ecall (C p s.regs) 31 is v (start p s.regs s.priv s.tabs v.regs)))
-    by-instr Ebreak is v = stops Ebreak at_ebreak is v
-    by-instr Hgate is v = stops Hgate at_gate is v
-    by-instr Hleave is v = stops Hleave at_leave is v
-    by-instr (Hsite rd) is v = stops (Hsite rd) (at_site rd) is v
-    by-instr (Hkey rd) is v = stops (Hkey rd) (at_key rd) is v
-    by-instr Hstop is v = stops Hstop at_stop is v
-    by-instr Hrestart is v = stops Hrestart at_restart is v
-    by-instr (Hcall unhinted) is v = stops (Hcall unhinted) (at_call unhinted) is v
-    by-instr (Hpark cause) is v = stops (Hpark cause) (at_halt cause) is v
-    by-instr Illegal is v = stops Illegal at_illegal is v
+    by-kind is_ecall is v = (31, omega arith, calling p s.regs (instruction-is is) (at-first s ok Ecall (C p s.regs) 31 is v (start p s.regs s.priv s.tabs v.regs)))
 
   -- at word 1 of a block the shadow is at its first row
   pub begins : (C : CallRows) (p base : ℕ) (h : Shade) (s : Point) (m : Memory) → Starts C h → HasBlock l p → address base s.place ≡ block_at l p + 4 → TableOk l s.tabs → Sees l base h s m → (n : ℕ) × (n ≤ 227) × Sound w C h n
@@ -280,7 +293,7 @@ module _ (w : World) (a : Accepted w) where
       shown x is = record { pc = v.pc ∙ e ∙ omega (arith, is); regs = v.regs; priv = v.priv; tabs = v.tabs; shared = refl; running = v.running }
 
       by_place : ((i : Instr) × InText w p i) ⊎ ((p ≡ l.text_end) × CodeAt w (block_at l l.text_end) guard_block) → (n : ℕ) × (n ≤ 227) × Sound w C h n
-      by_place (inl (i, is)) = by-instr C p h s ok start i is (shown p refl)
+      by_place (inl (i, is)) = by-kind C p h s ok start (kind-of i) is (shown p refl)
       by_place (inr (end, code)) =
           (1, omega arith, guarded s.regs (record { code = code; point = record s { place = InBlock 1 }; shown = shown l.text_end (sym end); ok = ok; row = park_starts s.regs s.priv s.tabs }))
 
@@ -300,23 +313,8 @@ is_helper (Away a) = false
 
 pub jump-place : {l : Layout} {at : ℕ} {q : Regs} {place : Place} {rs : Regs} {p : Priv} {t : Tabs} {n : ℕ} → JumpRow l at q place rs p t n → (is_helper place ≡ true) ⊎ (place ≡ InBlock 0)
 jump-place (j1 p) = inl refl
-jump-place (j2 p) = inl refl
-jump-place (j3 p) = inl refl
-jump-place (j4 p) = inl refl
-jump-place (j5 p) = inl refl
-jump-place (j6 p e) = inl refl
-jump-place (j7 p e) = inl refl
-jump-place (j8 p e) = inl refl
-jump-place (j9 p e) = inl refl
-jump-place (j10 p e) = inl refl
-jump-place (j11 p e) = inl refl
-jump-place (j12 p e) = inl refl
-jump-place (j13 p e) = inl refl
-jump-place (j14 p e) = inl refl
-jump-place (j15 p e) = inl refl
-jump-place (j16 p e) = inl refl
 jump-place (lands p e) = inr refl
-jump-place (faults p e) = inl refl
+jump-place _ = inl refl
 
 -- a place in a helper is the same whatever block is at hand
 pub helper-address : (base other : ℕ) (place : Place) → is_helper place ≡ true → address base place ≡ address other place

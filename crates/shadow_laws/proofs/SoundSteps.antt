@@ -11,6 +11,7 @@ use Rattle.rv_decode.specs.declared.instr.Instr.TheVariants.{Jal, Jalr}
 use Rattle.rv_decode.specs.declared.instr.Instr.TheVariants.{Ecall}
 use Rattle.rv_model.specs.Memory.{Memory, zeros, stored, patched, loaded}
 use Rattle.rv_model.specs.Space.{program_byte}
+use Rattle.rv_model.specs.Effect.{even}
 use Rattle.rv_model.proofs.Results.{wrap-small}
 use Rattle.code_model.specs.Assembly.{X31, ld}
 use Rattle.code_model.specs.Blocks.{block, is_target}
@@ -23,7 +24,7 @@ use Rattle.own_laws.proofs.Reached.{none_some}
 use Rattle.side_model.specs.Hart.{Regs, get, put, Priv}
 use Rattle.code_model.specs.Tables.{Tabs, TableOk}
 use Rattle.side_model.specs.Tables.{HasTabs}
-use Rattle.side_model.specs.Places.{Place, InBlock, address, code, HasBlock}
+use Rattle.side_model.specs.Places.{Place, InBlock, address, code, HasBlock, IsInstruction}
 use Rattle.side_model.specs.Words.{Point, exec_some}
 use Rattle.side_model.specs.Rows.{Led, arrives}
 use Rattle.side_model.specs.Sees.{Shade, shade_of, Sees, Landed, goes_on, arrived, parked}
@@ -36,7 +37,6 @@ use Rattle.rows_access.proofs.LoadWords.{load_leads}
 use Rattle.rows_access.proofs.StoreWords.{store_leads}
 use Rattle.rows_access.proofs.StoreChanges.{store_keeps}
 use Rattle.rows_access.proofs.AccessPlaces.{loaded-same}
-use Rattle.rows_flow.specs.Following.{IsInstruction}
 use Rattle.rows_flow.specs.JalRows.{JalRow, PadRow, Crosses, stays, crosses}
 use Rattle.rows_flow.specs.JalrRows.{JalrsRow}
 use Rattle.rows_flow.proofs.PlainWords.{plain_leads, auipc_leads, park_leads, guard_leads}
@@ -44,7 +44,6 @@ use Rattle.rows_flow.proofs.BranchWords.{branch_leads}
 use Rattle.rows_flow.proofs.JalWords.{jal_leads}
 use Rattle.rows_flow.proofs.JalrWords.{jalr_leads}
 use Rattle.rows_flow.proofs.Crossing.{crossing-shows}
-use Rattle.rows_log.specs.CallRows.{IsSite}
 use Rattle.rows_log.specs.RestartRows.{RestartNext, word, call}
 use Rattle.rows_log.proofs.FilledReads.{fills-keep_tables}
 use Rattle.rows_log.proofs.RestartWords.{restart_leads, restarted_leads, box_stays}
@@ -94,9 +93,41 @@ stays-at {w} {h = h} {m} leaves at row =
       row = row;
     }
 
+-- ---- a word that leads to another block
+
+-- the shadow stands at word 0 of the block of an address
+pub record HasCrossed (w : World) (target : ℕ) (s : Point) (m : Memory) (h : Shade) : Type 0 where
+  pub has_block : HasBlock w.image.layout target
+  pub word : Instr
+  pub is : InText w target word
+  pub shown : Sees w.image.layout (block_at w.image.layout target) h (record s { place = InBlock 0 }) m
+
+-- where a row says so, it is at that row
+pub crossed-at : {w : World} {target : ℕ} {s : Point} {m : Memory} {h : Shade} {k : ℕ} → TableOk w.image.layout s.tabs → (c : HasCrossed w target s m h)
+    → (Row : Place → Regs → Priv → Tabs → Memory → ℕ → Type 0) → Row (InBlock 0) s.regs s.priv s.tabs h.shared k → At w (block_at w.image.layout target) (block w.image.layout target c.word) Row h k
+crossed-at {s = s} ok c Row row =
+    record {
+      code = c.is.code;
+      point = record s { place = InBlock 0 };
+      shown = record { pc = c.shown.pc; regs = c.shown.regs; priv = c.shown.priv; tabs = c.shown.tabs; shared = refl; running = c.shown.running };
+      ok = ok;
+      row = row;
+    }
+
 module _ (w : World) (a : Accepted w) where
   abbrev l : Layout
   l = w.image.layout
+
+  -- word 5 of jal leads to the pad of its target's block
+  pub crossed-to : (x : Answer) (r : Run) (p rd : ℕ) (imm : ℤ) {n : ℕ} {Row : Place → Regs → Priv → Tabs → Memory → ℕ → Type 0} (at : At w (block_at l p) (block l p (Jal rd imm)) Row (shade_of r) n) (register : ℕ) (offset : ℤ)
+      → code l (block l p (Jal rd imm)) at.point.place ≡ Some (Jalr 0 register offset) → even (plus_int (get register at.point.regs) offset) ≡ block_at l (plus_int p imm) → is_target l (plus_int p imm) ≡ true
+      → HasCrossed w (plus_int p imm) at.point r.shared (shade_of (shadow_step w x r))
+  crossed-to x r p rd imm at register offset e to inside =
+      let target : ℕ = plus_int p imm in
+      let b : HasBlock l target = target-block w a target inside in
+      let i : (i : Instr) × InText w target i = at-address w a target b (target-inside l target inside).below in
+      let v = crossing-shows w x (block_at l p) (block_at l target) (block l p (Jal rd imm)) (omega (arith, b.whole)) at.code r at.point at.shown register offset e to in
+      record { has_block = b; word = i.0; is = i.1; shown = v }
 
   -- ---- one word
 
@@ -169,24 +200,11 @@ module _ (w : World) (a : Accepted w) where
           → Lands w C n after
       crossed p rd imm q n is at (stays d) = settles (λ s k row v ok. linking p rd imm q is (next at s v ok row.0)) (landed at d)
       crossed p rd imm q n is at (crosses k register offset e to row less) =
-          let target : ℕ = plus_int p imm in
-          let inside : is_target l target ≡ true = pad-target row in
-          let b : HasBlock l target = target-block w a target inside in
-          let i : (i : Instr) × InText w target i = at-address w a target b (target-inside l target inside).below in
-          let v : Sees l (block_at l target) after (record at.point { place = InBlock 0 }) r.shared =
-          crossing-shows w x (block_at l p) (block_at l target) (block l p (Jal rd imm)) (omega (arith, b.whole)) at.code r at.point at.shown register offset e to in
-          goes k (grind (arith, nat_tests, less))
-          (padded target (block l target i.0) b refl
-          (record {
-            code = i.1.code;
-            point = record at.point { place = InBlock 0 };
-            shown = record { pc = v.pc; regs = v.regs; priv = v.priv; tabs = v.tabs; shared = refl; running = v.running };
-            ok = at.ok;
-            row = at_pad at.point.regs at.point.priv;
-          }))
+          let c : HasCrossed w (plus_int p imm) at.point r.shared after = crossed-to x r p rd imm at register offset e to (pad-target row) in
+          goes k (grind (arith, nat_tests, less)) (padded (plus_int p imm) (block l (plus_int p imm) c.word) c.has_block refl (crossed-at at.ok c (bare PadAt) (at_pad at.point.regs at.point.priv)))
 
       -- each word leads on
-      pub sound-steps : {n : ℕ} → ((p : ℕ) (q : Regs) → IsSite l p → At w (block_at l p) (block l p Ecall) (C p q) (shade_of r) n → Lands w C n after)
+      pub sound-steps : {n : ℕ} → ((p : ℕ) (q : Regs) → IsInstruction l p → At w (block_at l p) (block l p Ecall) (C p q) (shade_of r) n → Lands w C n after)
           → Sound w C (shade_of r) n → Lands w C n after
       sound-steps {n} calls (computing p i q is c at) =
           settles (λ s k row v ok. computing p i q is c (next at s v ok row.0)) (landed at (plain_leads l p i q program is c n at.point.place at.point.regs at.point.priv at.point.tabs r.shared at.ok at.row))

@@ -1,5 +1,5 @@
 -- The block of each instruction of the text, and the guard block behind them, are what the shadow fetches there.
-use Rattle.std.proofs.Common.{◌≡◌, ℕ, zero, suc, [], ◌+◌, ◌-◌, ◌*◌, ◌/◌, ◌%◌, ◌^◌, ◌≤◌, ◌<◌, ◌⊎◌, inl, inr, List, length, get_or, slice_get, Some, refl, ◌∙◌, ap, arith, replicate}
+use Rattle.std.proofs.Common.{◌≡◌, ℕ, ◌+◌, ◌-◌, ◌*◌, ◌/◌, ◌%◌, ◌^◌, ◌≤◌, ◌<◌, ◌⊎◌, inl, inr, List, length, get_or, slice_get, Some, ◌∙◌, ap, arith, replicate}
 use Rattle.std.specs.Prelude.{◌≢◌, ◌∷◌, ◌++◌}
 use Rattle.std.proofs.lemmas.List.{length-take, length-map}
 use Rattle.std.proofs.lemmas.List.Elements.{All-get_or}
@@ -18,9 +18,8 @@ use Rattle.code_model.specs.Blocks.{block, guard_block, blocks_from, with_pad, p
 use Rattle.code_model.specs.Places.{block_at}
 use Rattle.run_model.specs.Run.{World}
 use Rattle.run_laws.specs.OwnLaws.{Accepted}
-use Rattle.own_laws.proofs.Reached.{none_some}
 use Rattle.side_model.specs.Places.{IsBase, HasBlock}
-use Rattle.side_model.proofs.Fetching.{CodeAt, block_code}
+use Rattle.side_model.proofs.Fetching.{CodeAt, block_code, block_of, guard_of}
 use Rattle.side_model.proofs.Numbers.{TextFits, text-fits}
 
 -- an instruction stands in the text, and its block in the shadow text
@@ -34,17 +33,6 @@ pub record InText (w : World) (p : ℕ) (i : Instr) : Type 0 where
   pub registers : HasRegisters i
 
 -- ---- blocks of a text
-
--- the block of an instruction stands at the instruction's number
-block_of : (l : Layout) (p : ℕ) (text : List Instr) (j : ℕ) (i : Instr) → slice_get text j ≡ Some i → slice_get (blocks_from l p text) j ≡ Some (block l (p + 4 * j) i)
-block_of l p [] j i e = none_some e
-block_of l p (x ∷ text) zero i e = let is : x ≡ i = cc in ap (λ (y : Instr). Some (block l p y)) is ∙ ap (λ (n : ℕ). Some (block l n i)) (omega arith)
-block_of l p (x ∷ text) (suc j) i e = block_of l (p + 4) text j i e ∙ ap (λ (n : ℕ). Some (block l n i)) (omega arith)
-
--- the guard block stands behind the last
-guard_of : (l : Layout) (p : ℕ) (text : List Instr) → slice_get (blocks_from l p text) (length text) ≡ Some guard_block
-guard_of l p [] = refl
-guard_of l p (x ∷ text) = guard_of l (p + 4) text
 
 -- 16 words at most
 pad-most : (words : List Instr) → length (with_pad words) ≤ 16

@@ -11,13 +11,13 @@ use Rattle.run_model.specs.ShadowMoves.{is_arrival, shadow_step}
 use Rattle.run_laws.specs.OwnLaws.{Accepted}
 use Rattle.own_laws.proofs.Reached.{false_true}
 use Rattle.side_model.specs.Hart.{Regs}
-use Rattle.side_model.specs.Places.{Place, InBlock, InHelper, Away, address}
+use Rattle.side_model.specs.Places.{Place, InBlock, InHelper, Away, address, IsInstruction}
 use Rattle.side_model.specs.Words.{Point}
 use Rattle.side_model.specs.Sees.{Shade, shade_of, Sees, Landed}
 use Rattle.side_model.specs.Sees as landing
 use Rattle.side_model.specs.JumpRows.{JumpFits}
-use Rattle.rows_log.specs.CallRows.{IsSite}
-use Rattle.rows_log.specs.RestartRows.{Same, RestartedRow, RestartArrives, RestartFaults}
+use Rattle.side_model.specs.Tables.{IsUnchanged}
+use Rattle.rows_log.specs.RestartRows.{RestartedRow, RestartArrives, RestartFaults}
 use Rattle.rows_log.proofs.RestartWords.{restarted_leads}
 use Rattle.shadow_laws.proofs.ShadowNumbers.{Sized, stock_of}
 use Rattle.shadow_laws.proofs.ShadowRuns.{block-arrives}
@@ -31,7 +31,7 @@ use Rattle.hint_laws.proofs.Spots.{inner-arrival}
 pub record OnReturn (w : World) (site : ℕ) (g : Regs) (y : Run) : Type 0 where
   pub base : ℕ
   pub words : List Instr
-  pub is_site : IsSite w.image.layout site
+  pub is_site : IsInstruction w.image.layout site
   pub fits : JumpFits w.image.layout (site + 4) g base words
   pub left : ℕ
   pub at : At w base words (bare (RestartedRow w.image.layout site g)) (shade_of y) left
@@ -63,7 +63,7 @@ module _ (w : World) (a : Accepted w) (x : Answer) (y : Run) (z : Sized (stock_o
       by_landed (landed w a x y z on.at
       (restarted_leads l site g on.base on.words (program_byte l (rewritten_words w) y.own.memory) on.is_site on.fits on.left on.at.point.place on.at.point.regs on.at.point.priv on.at.point.tabs y.shared on.at.ok on.at.row))
     where
-      by_landed : Landed l on.base (λ place rs s t m k. RestartedRow l site g place rs s t k × Same on.at.point.tabs y.shared t m) (RestartArrives l site g on.at.point.tabs y.shared) (RestartFaults l site on.at.point.tabs y.shared) on.left (shade_of next)
+      by_landed : Landed l on.base (λ place rs s t m k. RestartedRow l site g place rs s t k × IsUnchanged on.at.point.tabs y.shared t m) (RestartArrives l site g on.at.point.tabs y.shared) (RestartFaults l site on.at.point.tabs y.shared) on.left (shade_of next)
           → Returned w site g next
       by_landed (landing.goes_on k s m row ok less inner v) =
           still (off-block s (restarted-place row.0) v.pc)

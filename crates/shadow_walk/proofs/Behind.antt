@@ -24,7 +24,7 @@ use Rattle.side_model.proofs.Registers as low
 use Rattle.side_model.proofs.Registers.{HasRegs-of, HasRegs-put}
 use Rattle.rows_log.specs.RestartRows.{saved, RestartedRow, r49}
 use Rattle.shadow_laws.proofs.ShadowNumbers.{Sized, stock_of, sized-of, of-sized}
-use Rattle.shadow_laws.proofs.Sound.{At, bare, Target, target-of, site-is}
+use Rattle.shadow_laws.proofs.Sound.{At, bare, Target, target-of, instruction-is}
 use Rattle.shadow_laws.proofs.TextBlocks.{InText, text}
 use Rattle.hint_laws.proofs.Within.{goes_to, behind, answered, unboxing}
 use Rattle.hart_mem.specs.Held.{Held}
@@ -104,7 +104,7 @@ begins_onward l c s w x r q a same shows at =
       left = 1;
       shows = shows;
       within =
-          answered q.pc (r.shadow.registers 10) (low.regs_of r.shadow.registers) (site-is w a is)
+          answered q.pc (r.shadow.registers 10) (low.regs_of r.shadow.registers) (instruction-is w a is)
           (record {
             code = is.code;
             point = record { place = InBlock 7; regs = answered_regs r; priv = priv_of r.shadow_page; tabs = at.tables };

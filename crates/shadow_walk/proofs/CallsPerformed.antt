@@ -6,7 +6,6 @@ use Rattle.spec_base.specs.declared.layout.Layout.{Layout}
 use Rattle.spec_base.specs.declared.note.ShadowState.{ShadowState}
 use Rattle.spec_base.specs.declared.note.ShadowState.TheVariants.{Running, Parked}
 use Rattle.spec_base.specs.declared.park.Park.TheVariants as park
-use Rattle.spec_base.specs.declared.spot.ReadSpot.{ReadSpot}
 use Rattle.rv_decode.specs.declared.instr.Instr.TheVariants.{Ecall}
 use Rattle.rv_model.specs.Memory.{Memory, patched, written, is_within}
 use Rattle.rv_model.specs.Registers.{Registers, with_reg}
@@ -16,14 +15,16 @@ use Rattle.program_model.specs.Descriptors.{Descriptors}
 use Rattle.program_model.specs.Calls.{CallPlan, Set, Look, Read, Write, Exit, bytes_read}
 use Rattle.program_model.specs.PlainRun.{State, plan_of}
 use Rattle.run_model.specs.Run.{World, Run, Answer, Usual, Took, Failed, Lost, rewritten_words}
-use Rattle.run_model.specs.ShadowMoves.{arrived, arrived_if, assumed, fill, fill_if, hint_given, is_filled, shadow_at_word, shadow_in, shadow_plan, shadow_step, word_counted}
+use Rattle.run_model.specs.ShadowMoves.{arrived, arrived_if, assumed, fill, hint_given, is_filled, shadow_at_word, shadow_in, shadow_plan, shadow_step, word_counted}
 use Rattle.run_laws.specs.OwnLaws.{Accepted}
 use Rattle.run_model.specs.Restarts.{call_action}
 use Rattle.run_model.specs.Marks.{no_marks}
 use Rattle.code_model.specs.Tables.{Tabs, TableOk}
+use Rattle.own_laws.proofs.Stops.{fill-state}
 use Rattle.side_model.specs.Tables.{HasTabs}
 use Rattle.rows_log.specs.Fills.{IsFilled}
 use Rattle.rows_log.proofs.FilledReads.{fills-keep_tables}
+use Rattle.rows_log.proofs.FillViews.{written-alike}
 use Rattle.mark_laws.specs.Agreement.{Agrees, SeesAlike, HasAll, CallLeads, assumed_answer, assumed_memory, is_read}
 use Rattle.mark_laws.specs.Sizes.{TrueSizes}
 use Rattle.mark_laws.proofs.OneCall.{plan_agrees, call_agrees}
@@ -46,22 +47,12 @@ counted-state : (b : Bool) (r : Run) → (word_counted (arrived_if b r)).shadow.
 counted-state true r = refl
 counted-state false r = refl
 
--- so does a fill
-filled-state : (b : Bool) (w : World) (spot : ReadSpot) (a : ℕ) (r : Run) → (fill_if b w spot a r).shadow.state ≡ r.shadow.state
-filled-state true w spot a r = refl
-filled-state false w spot a r = refl
-
 -- ---- bytes
 
 -- no byte is written elsewhere
 written-out : (m : Memory) (a : ℕ) (bytes : List ℕ) (n x : ℕ) → length bytes ≡ n → is_within a n x ≡ false → written m a bytes x ≡ m x
 unfolding patched
 written-out m a bytes n x e out = ap (λ (b : Bool). elim b [ true ↦ get_or bytes (x - a) 0 | false ↦ m x ]) (ap (λ (k : ℕ). is_within a k x) e ∙ out)
-
--- bytes are written over bytes that are alike
-written-alike : (f g : Memory) (a : ℕ) (bytes : List ℕ) (x : ℕ) → f x ≡ g x → written f a bytes x ≡ written g a bytes x
-unfolding patched
-written-alike f g a bytes x e = ap (λ (v : ℕ). elim (is_within a (length bytes) x) [ true ↦ get_or bytes (x - a) 0 | false ↦ v ]) e
 
 -- what is seen behind a call is the next state's, but for the bytes of a read that isn't filled
 seen-behind : (filled : Bool) (files : Files) (v m : Memory) (plan : CallPlan) (x : ℕ) → v x ≡ m x → HasAll files plan → is_left filled plan x ≡ false → assumed_memory filled files v plan x ≡ assumed_memory true files m plan x
@@ -194,7 +185,7 @@ module _ (w : World) (a : Accepted w) (x : Answer) (r : Run) (q : State) (sizes 
   by-plan (Look name) e = looked x refl name e refl
   by-plan (Set f answer) e = went (by-state (Set f answer) e Running runs)
   by-plan (Write to_out b n) e = went (by-state (Write to_out b n) e Running runs)
-  by-plan (Read d spot b) e = went (by-state (Read d spot b) e Running (filled-state (is_filled w (hint_given false spot r) spot b spot.count) w spot b (hint_given false spot r) ∙ runs))
+  by-plan (Read d spot b) e = went (by-state (Read d spot b) e Running (fill-state (is_filled w (hint_given false spot r) spot b spot.count) w spot b (hint_given false spot r) ∙ runs))
 
 pub calls_performed : CallsArePerformed
 calls_performed w x r q a sizes runs at = by-plan w a x r q sizes runs at (plan_of w.image.layout q) refl

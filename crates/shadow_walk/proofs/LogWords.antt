@@ -23,7 +23,7 @@ use Rattle.run_laws.specs.OwnLaws.{Accepted}
 use Rattle.run_model.specs.Restarts.{instr_at}
 use Rattle.own_laws.proofs.Reached.{false_true}
 use Rattle.side_model.specs.Hart.{Regs, get, Priv}
-use Rattle.side_model.specs.Places.{Place, InBlock, InHelper, Appending, address, code}
+use Rattle.side_model.specs.Places.{Place, InBlock, InHelper, Appending, address, code, IsInstruction}
 use Rattle.side_model.specs.Words.{Point}
 use Rattle.side_model.specs.Sees.{shade_of, HasRegs, Landed}
 use Rattle.side_model.specs.Sees as landing
@@ -35,12 +35,12 @@ use Rattle.side_model.specs.Tables.{HasTabs}
 use Rattle.code_model.specs.Tables.{Tabs, TableOk}
 use Rattle.rows_log.specs.Queue.{HasRoom}
 use Rattle.rows_log.specs.CallRows as row
-use Rattle.rows_log.specs.CallRows.{IsSite, Stage, Before, Headed, Room, HasKey, HasPair, Appended, AtStage, Settled, keyless, keyed, CallRow, before_key, is_headed, KeyStep, keeps_key, finds_key, HeadStep, finds_head, keeps_head, no_head, CallNext, LogIsFull}
+use Rattle.rows_log.specs.CallRows.{Stage, Before, Headed, Room, HasKey, HasPair, Appended, AtStage, Settled, keyless, keyed, CallRow, before_key, is_headed, KeyStep, keeps_key, finds_key, HeadStep, finds_head, keeps_head, no_head, CallNext, LogIsFull}
 use Rattle.rows_log.proofs.CallWords.{call_leads, call_starts}
 use Rattle.rows_log.proofs.QueueLaws.{steps-keep}
 use Rattle.mark_laws.proofs.OneInstruction.{true_false}
 use Rattle.shadow_laws.proofs.ShadowNumbers.{Sized, stock_of}
-use Rattle.shadow_laws.proofs.Sound.{At, parked_running, site-is}
+use Rattle.shadow_laws.proofs.Sound.{At, parked_running, instruction-is}
 use Rattle.shadow_laws.proofs.LoggedSteps.{key-small}
 use Rattle.shadow_laws.proofs.SoundSteps.{landed}
 use Rattle.shadow_laws.proofs.TextBlocks.{InText, text, at-address}
@@ -169,8 +169,8 @@ module _ (w : World) (a : Accepted w) (x : Answer) (r : Run) (q : State) (call :
   abbrev point : Point
   point = on.at.point
 
-  site : IsSite l q.pc
-  site = site-is w a (call-there w a q call)
+  site : IsInstruction l q.pc
+  site = instruction-is w a (call-there w a q call)
 
   -- the asked count
   count-is : get 12 on.g ≡ r.shadow.registers 12

@@ -43,7 +43,6 @@ use Rattle.hint_laws.proofs.Going.{program-left}
 use Rattle.hint_laws.proofs.ParkPlaces.{is_named, park-named}
 use Rattle.hart_mem.specs.Held.{Held}
 use Rattle.hart_step.specs.Core.{Core}
-use Rattle.hart_step.specs.Step.{Outcome}
 use Rattle.hart_step.specs.declared.event.Event.{Event}
 use Rattle.hart_step.specs.declared.event.Event.TheVariants as event
 use Rattle.word_laws.specs.Shown.{ShowsIn, ShowsShadow}
@@ -52,9 +51,9 @@ use Rattle.shadow_walk.specs.Walks.{NoneArrives, words_on}
 use Rattle.shadow_walk.specs.Restarts as again
 use Rattle.shadow_walk.specs.Restarts.{StandsAnew, IsUnboxed, LeavesOwn, Restarts}
 use Rattle.shadow_walk.specs.declared.walking.Walked.TheVariants as walked
-use Rattle.shadow_walk.proofs.Told.{Tells, tells}
+use Rattle.shadow_walk.proofs.Told.{Tells}
 use Rattle.shadow_walk.proofs.WalkRows.{within-some, AsksIn, Unboxes, within-asks, within-completes}
-use Rattle.shadow_walk.proofs.Strides.{none-yet, none-more, Stepped, IsStray}
+use Rattle.shadow_walk.proofs.Strides.{none-yet, none-more, Stepped, IsStray, made-on, step-tells}
 
 -- ---- on the way
 
@@ -197,15 +196,14 @@ module _ (w : World) (a : Accepted w) {x : ℕ → Answer} {r : Run} {f : Doing}
 
   -- the word makes the next run
   made-next : next ≡ words_on w x r (suc k.before)
-  unfolding words_on
-  made-next = ap (shadow_step w (x k.before)) k.made
+  made-next = made-on w x r k.before k.made
 
   made-words : next ≡ words_on w x r words
   made-words = made-next ∙ ap (words_on w x r) (sym k.number)
 
   -- what the event tells
   pub told : Tells e w y
-  told = subst (λ (e : Event). Tells e w y) (sym (ap (λ (o : Outcome). o.event) step.outcome)) (tells w a y h c s k.shows)
+  told = step-tells w a y step k.shows
 
   moved : MovesBy e w y c s d t
   moved = step.moves w y a k.shows

@@ -134,6 +134,15 @@ is-stray (event.Park cause) d k p c = p cause refl
 is-stray (event.Call unhinted) d k p c = c unhinted refl
 is-stray _ d k p c = tt
 
+-- a word behind some makes one more
+pub made-on : (w : World) (x : ℕ → Answer) (r : Run) {y : Run} (before : ℕ) → y ≡ words_on w x r before → shadow_step w (x before) y ≡ words_on w x r (suc before)
+unfolding words_on
+made-on w x r before made = ap (shadow_step w (x before)) made
+
+-- what the event of a step tells
+pub step-tells : (w : World) → Accepted w → (y : Run) {h : Held} {c : Core} {s : Space} {e : Event} {d : Core} {t : Space} → Stepped h c s e d t → ShowsShadow w y c s → Tells e w y
+step-tells w a y {h} {c} {s} step shows = subst (λ (e : Event). Tells e w y) (sym (ap (λ (o : Outcome). o.event) step.outcome)) (tells w a y h c s shows)
+
 module _ (w : World) (a : Accepted w) {x : ℕ → Answer} {r : Run} {q : State} {words : ℕ} {h : Held} {c : Core} {s : Space} {e : Event} {d : Core} {t : Space} (step : Stepped h c s e d t) (k : Striding w x r q words c s) where
   abbrev l : Layout
   l = w.image.layout
@@ -146,15 +155,14 @@ module _ (w : World) (a : Accepted w) {x : ℕ → Answer} {r : Run} {q : State}
 
   -- the word makes the next run
   made-next : next ≡ words_on w x r (suc k.before)
-  unfolding words_on
-  made-next = ap (shadow_step w (x k.before)) k.made
+  made-next = made-on w x r k.before k.made
 
   made-words : next ≡ words_on w x r words
   made-words = made-next ∙ ap (words_on w x r) (sym k.number)
 
   -- what the event tells
   told : Tells e w y
-  told = subst (λ (e : Event). Tells e w y) (sym (ap (λ (o : Outcome). o.event) step.outcome)) (tells w a y h c s k.shows)
+  told = step-tells w a y step k.shows
 
   moved : MovesBy e w y c s d t
   moved = step.moves w y a k.shows

@@ -3,7 +3,6 @@ use Rattle.std.proofs.Common.{◌≡◌, ℕ, zero, suc, ◌+◌, ◌-◌, ◌^�
 use Rattle.std.proofs.lemmas.Bool.{and_parts}
 use Rattle.spec_base.specs.Word.{plus_int}
 use Rattle.spec_base.specs.declared.layout.Layout.{Layout}
-use Rattle.spec_base.specs.declared.park.Park.{Park}
 use Rattle.rv_decode.specs.declared.instr.Instr.{Instr}
 use Rattle.rv_decode.specs.declared.instr.Instr.TheVariants.{Auipc, Jal, Jalr, Branch, Load, Store, Ecall, Hkey, Hcall}
 use Rattle.rv_decode.specs.declared.instr.BranchOp.{BranchOp}
@@ -24,15 +23,11 @@ use Rattle.run_model.specs.ShadowMoves.{fetch_shadow}
 use Rattle.side_model.specs.Hart.{Regs, get, put, Priv}
 use Rattle.code_model.specs.Tables.{Tabs}
 use Rattle.side_model.specs.Tables.{HasTabs}
-use Rattle.side_model.specs.Places.{Place, InBlock, address, Helper, Restarting, helper_words, Loading, Storing, Width, code, HasBlock}
-use Rattle.side_model.specs.Words.{exec_some}
-use Rattle.side_model.specs.Rows.{Led}
+use Rattle.side_model.specs.Places.{Place, InBlock, address, Helper, Restarting, helper_words, Loading, Storing, Width, code}
 use Rattle.side_model.specs.Sees.{Shade, shade_of, HasRegs}
 use Rattle.run_laws.specs.Completes.{WordCompletes}
-use Rattle.side_model.specs.JumpRows as jump
 use Rattle.side_model.specs.JumpRows.{JumpRow, JumpFits, lands}
 use Rattle.side_model.proofs.Fetching.{code-fetches}
-use Rattle.side_model.proofs.NoTraps.{word-no_trap, jump-no_trap}
 use Rattle.rows_access.specs.CheckRows as check
 use Rattle.rows_access.specs.CheckRows.{CheckRow}
 use Rattle.rows_access.specs.LoadRows as load
@@ -54,18 +49,17 @@ use Rattle.rows_flow.proofs.PlainWords.{plain_leads, auipc_leads, park_leads, gu
 use Rattle.rows_flow.proofs.BranchWords.{branch_leads}
 use Rattle.rows_flow.proofs.JalWords.{jal_leads, pad_leads}
 use Rattle.rows_flow.proofs.JalrWords.{jalr_leads, jump_follows}
-use Rattle.rows_log.specs.CallRows.{IsSite, CallArrives}
 use Rattle.rows_log.specs.RestartRows as restart
 use Rattle.rows_log.specs.RestartRows.{HasBox, AreLoaded, IsFresh, RestartRow, UnboxedRow, RestartedRow}
-use Rattle.rows_log.proofs.CallWords.{called_arrives}
 use Rattle.rows_log.proofs.RestartWords.{restart_leads, restarted_leads}
 use Rattle.shadow_laws.proofs.AnyCalls as calls
 use Rattle.shadow_laws.proofs.AnyCalls.{AnyCallRow, any_call-leads, a3, b6}
 use Rattle.shadow_laws.proofs.ShadowNumbers.{Sized, stock_of, program-bytes}
-use Rattle.shadow_laws.proofs.Sound.{At, bare, pad-target, target-block}
-use Rattle.shadow_laws.proofs.TextBlocks.{text}
+use Rattle.shadow_laws.proofs.Sound.{At, bare}
+use Rattle.shadow_laws.proofs.SoundWords.{led-completes, crossed-completes}
 use Rattle.hint_laws.proofs.Within.{Doing, does, ends, restarts, goes_to, AreSeen, known_from, BehindRow, behind, Within, computing, quartering, branching, linking, padding, going, jumping, parking, guarded, loading, storing, calling, answered, restarting, unboxing}
-use Rattle.hint_laws.proofs.WithinSteps.{known-loaded, behind-is}
+use Rattle.hint_laws.proofs.WithinSteps.{known-loaded, behind-leads}
+use Rattle.hint_laws.proofs.Spots.{jump-some, restarted-some}
 
 -- ---- words that are left
 
@@ -92,10 +86,6 @@ pad-some (pad s e) = lit< tt
 jalr-some : {l : Layout} {p rd rs1 : ℕ} {imm : ℤ} {q : Regs} {place : Place} {rs : Regs} {s : Priv} {t : Tabs} {n : ℕ} → JalrRow l p rd rs1 imm q place rs s t n → 0 < n
 jalr-some (jalr.r1 s) = lit< tt
 jalr-some _ = lit< tt
-
-jump-some : {l : Layout} {at : ℕ} {q : Regs} {place : Place} {rs : Regs} {s : Priv} {t : Tabs} {n : ℕ} → JumpRow l at q place rs s t n → 0 < n
-jump-some (jump.j1 s) = lit< tt
-jump-some _ = lit< tt
 
 park-some : {q : Regs} {place : Place} {rs : Regs} {s : Priv} {t : Tabs} {n : ℕ} → ParkRow q place rs s t n → 0 < n
 park-some (plain.h1 s) = lit< tt
@@ -133,14 +123,6 @@ restart-some (restart.r9 j s h c) = omega arith
 restart-some (restart.r10 j s h c) = omega arith
 restart-some (restart.r18-47 k s less fresh x31 loaded) = omega (arith, less)
 restart-some _ = lit< tt
-
-restarted-some : {l : Layout} {site : ℕ} {q : Regs} {place : Place} {rs : Regs} {s : Priv} {t : Tabs} {n : ℕ} → RestartedRow l site q place rs s t n → 0 < n
-restarted-some (inl row) = by_row row
-  where
-    by_row : {l : Layout} {site : ℕ} {q : Regs} {place : Place} {rs : Regs} {s : Priv} {t : Tabs} {n : ℕ} → UnboxedRow l site q place rs s t n → 0 < n
-    by_row (restart.r49 s) = lit< tt
-    by_row (restart.r50 s) = lit< tt
-restarted-some (inr row) = jump-some row
 
 behind-some : {q : Regs} {place : Place} {rs : Regs} {s : Priv} {t : Tabs} {n : ℕ} → BehindRow q place rs s t n → 0 < n
 behind-some (behind s) = lit< tt
@@ -440,56 +422,27 @@ module _ (w : World) (a : Accepted w) (r : Run) (z : Sized (stock_of r)) (bytes 
   abbrev program : Memory
   program = program_byte l (rewritten_words w) r.own.memory
 
-  -- a word that is led, completes
-  completes : {base : ℕ} {words : List Instr} {Row Row' : Place → Regs → Priv → Tabs → Memory → ℕ → Type 0} {Arrives : ℕ → Regs → Tabs → Memory → Type 0} {Why : Park → Tabs → Memory → Type 0} {n : ℕ}
-      (at : At w base words Row (shade_of r) n) → Led l program base Row' Arrives Why n (exec_some base (code l words at.point.place) at.point r.shared) → WordCompletes w r
-  completes {base} {words} {Row} {Row'} {Arrives} {Why} {n} at d = word-no_trap w base words at.code r at.point at.shown Row' Arrives Why n (text w a).regions_few d
-
-  -- word 5 of jal jumps to the pad of its target's block, which is a multiple of 4
-  crossed : (p rd : ℕ) (imm : ℤ) (q : Regs) (n : ℕ) → (at : At w (block_at l p) (block l p (Jal rd imm)) (bare (JalRow l p rd (plus_int p imm) q)) (shade_of r) n)
-      → Crosses l program p (Jal rd imm) q (block_at l p) (block_at l (plus_int p imm)) (JalRow l p rd (plus_int p imm) q) (PadRow l p rd (plus_int p imm) q)
-      (code l (block l p (Jal rd imm)) at.point.place) at.point.place at.point.regs at.point.priv at.point.tabs r.shared n
-      → WordCompletes w r
-  crossed p rd imm q n at (stays d) = completes at d
-  crossed p rd imm q n at (crosses k register offset e to row less) =
-      let b : HasBlock l (plus_int p imm) = target-block w a (plus_int p imm) (pad-target row) in
-      jump-no_trap w (block_at l p) (block l p (Jal rd imm)) at.code r at.point at.shown register offset (block_at l (plus_int p imm)) e to (omega (arith, b.whole))
-
-  -- the word behind the HCALL
-  answers : (p answer : ℕ) (q : Regs) (n : ℕ) → IsSite l p → (at : At w (block_at l p) (block l p Ecall) (bare (BehindRow (put 10 answer q))) (shade_of r) n) → WordCompletes w r
-  answers p answer q n is at =
-      let row : (at.point.place ≡ InBlock 7) × (at.point.regs ≡ put 10 answer q) × (n ≡ 1) = behind-is at.row in
-      let leads : Place → Regs → ℕ → Type 0 =
-      λ place rs k.
-      Led l program (block_at l p) (λ place rs s t m k. ⊥) (CallArrives p q answer at.point.tabs r.shared) (λ cause t m. ⊥) k
-      (exec_some (block_at l p) (code l (block l p Ecall) place) (record { place = place; regs = rs; priv = at.point.priv; tabs = at.point.tabs }) r.shared) in
-      let d : leads at.point.place at.point.regs n =
-      subst (λ k. leads at.point.place at.point.regs k) (sym row.2)
-      (subst (λ place. leads place at.point.regs 1) (sym row.0)
-      (subst (λ rs. leads (InBlock 7) rs 1) (sym row.1) (called_arrives l p q answer program is at.point.priv at.point.tabs r.shared at.ok))) in
-      completes at d
-
   -- each word completes; a load wants that the known bytes are seen
   pub within-completes : {d : Doing} {n : ℕ} → ((p rd rs1 : ℕ) (op : LoadOp) (imm : ℤ) (q : Regs) → d ≡ does p (Load op rd rs1 imm) q → AreSeen l bytes program r.shared) → Within w bytes program d (shade_of r) n → WordCompletes w r
-  within-completes {n = n} sees (computing p i q is c at) = completes at (plain_leads l p i q program is c n at.point.place at.point.regs at.point.priv at.point.tabs r.shared at.ok at.row)
-  within-completes {n = n} sees (quartering p rd imm q is f at) = completes at (auipc_leads l p rd imm q program is f n at.point.place at.point.regs at.point.priv at.point.tabs r.shared at.ok at.row)
-  within-completes {n = n} sees (branching p op rs1 rs2 imm q is at) = completes at (branch_leads l p op rs1 rs2 imm q program is n at.point.place at.point.regs at.point.priv at.point.tabs r.shared at.ok at.row)
-  within-completes {n = n} sees (linking p rd imm q is at) = crossed p rd imm q n at (jal_leads l p rd imm q program is n at.point.place at.point.regs at.point.priv at.point.tabs r.shared at.ok at.row)
-  within-completes {n = n} sees (padding p rd imm q words is f at) = completes at (pad_leads l p rd imm q words program is f n at.point.place at.point.regs at.point.priv at.point.tabs r.shared at.ok at.row)
-  within-completes {n = n} sees (going p rd rs1 imm q is at) = completes at (jalr_leads l p rd rs1 imm q program is n at.point.place at.point.regs at.point.priv at.point.tabs r.shared at.ok at.row)
-  within-completes {n = n} sees (jumping p rd rs1 imm q base words is fits at) = completes at (jump_follows l p rd rs1 imm q base words program is fits n at.point.place at.point.regs at.point.priv at.point.tabs r.shared at.ok at.row)
-  within-completes {n = n} sees (parking p i q is c at) = completes at (park_leads l p i q program is c n at.point.place at.point.regs at.point.priv at.point.tabs r.shared at.ok at.row)
-  within-completes {n = n} sees (guarded q at) = completes at (guard_leads l q program n at.point.place at.point.regs at.point.priv at.point.tabs r.shared at.ok at.row)
+  within-completes {n = n} sees (computing p i q is c at) = led-completes w a r at (plain_leads l p i q program is c n at.point.place at.point.regs at.point.priv at.point.tabs r.shared at.ok at.row)
+  within-completes {n = n} sees (quartering p rd imm q is f at) = led-completes w a r at (auipc_leads l p rd imm q program is f n at.point.place at.point.regs at.point.priv at.point.tabs r.shared at.ok at.row)
+  within-completes {n = n} sees (branching p op rs1 rs2 imm q is at) = led-completes w a r at (branch_leads l p op rs1 rs2 imm q program is n at.point.place at.point.regs at.point.priv at.point.tabs r.shared at.ok at.row)
+  within-completes {n = n} sees (linking p rd imm q is at) = crossed-completes w a r p rd imm q n at (jal_leads l p rd imm q program is n at.point.place at.point.regs at.point.priv at.point.tabs r.shared at.ok at.row)
+  within-completes {n = n} sees (padding p rd imm q words is f at) = led-completes w a r at (pad_leads l p rd imm q words program is f n at.point.place at.point.regs at.point.priv at.point.tabs r.shared at.ok at.row)
+  within-completes {n = n} sees (going p rd rs1 imm q is at) = led-completes w a r at (jalr_leads l p rd rs1 imm q program is n at.point.place at.point.regs at.point.priv at.point.tabs r.shared at.ok at.row)
+  within-completes {n = n} sees (jumping p rd rs1 imm q base words is fits at) = led-completes w a r at (jump_follows l p rd rs1 imm q base words program is fits n at.point.place at.point.regs at.point.priv at.point.tabs r.shared at.ok at.row)
+  within-completes {n = n} sees (parking p i q is c at) = led-completes w a r at (park_leads l p i q program is c n at.point.place at.point.regs at.point.priv at.point.tabs r.shared at.ok at.row)
+  within-completes {n = n} sees (guarded q at) = led-completes w a r at (guard_leads l q program n at.point.place at.point.regs at.point.priv at.point.tabs r.shared at.ok at.row)
   within-completes {n = n} sees (loading p op rd rs1 imm q is at) =
       let given : Option ℕ = known_from bytes (plus_int (get rs1 q) imm) (load_width op) in
-      completes at
+      led-completes w a r at
       (load_leads l p op rd rs1 imm q given program is n at.point.place at.point.regs at.point.priv at.point.tabs r.shared at.ok
       (λ e. known-loaded bytes (seen at.point.tabs r.shared program) (sees p rd rs1 op imm q refl at.point.tabs at.shown.tabs) (plus_int (get rs1 q) imm) (load_width op)) at.row)
   within-completes {n = n} sees (storing p op rs1 rs2 imm q t0 is at) =
-      completes at (store_leads l p op rs1 rs2 imm q bytes program t0 is (λ b v e c g h. program-bytes l (rewritten_words w) r.own.memory z.own_memory c) n at.point.place at.point.regs at.point.priv at.point.tabs r.shared at.ok at.row)
-  within-completes {n = n} sees (calling p q is at before) = completes at (any_call-leads l p q program is r.shared at.ok at.row)
-  within-completes {n = n} sees (answered p answer q is at) = answers p answer q n is at
+      led-completes w a r at (store_leads l p op rs1 rs2 imm q bytes program t0 is (λ b v e c g h. program-bytes l (rewritten_words w) r.own.memory z.own_memory c) n at.point.place at.point.regs at.point.priv at.point.tabs r.shared at.ok at.row)
+  within-completes {n = n} sees (calling p q is at before) = led-completes w a r at (any_call-leads l p q program is r.shared at.ok at.row)
+  within-completes {n = n} sees (answered p answer q is at) = led-completes w a r at (behind-leads w r p answer q is at)
   within-completes {n = n} sees (restarting site q base words is fits at) =
-      completes at (restart_leads l site q base words program is n at.point.place at.point.regs at.point.priv at.point.tabs r.shared at.ok at.row.1 at.row.0)
+      led-completes w a r at (restart_leads l site q base words program is n at.point.place at.point.regs at.point.priv at.point.tabs r.shared at.ok at.row.1 at.row.0)
   within-completes {n = n} sees (unboxing site q base words is fits at) =
-      completes at (restarted_leads l site q base words program is fits n at.point.place at.point.regs at.point.priv at.point.tabs r.shared at.ok at.row)
+      led-completes w a r at (restarted_leads l site q base words program is fits n at.point.place at.point.regs at.point.priv at.point.tabs r.shared at.ok at.row)

@@ -16,10 +16,9 @@ use Rattle.run_model.specs.Run.{World, Run, Answer}
 use Rattle.run_model.specs.ShadowMoves.{fetch_shadow}
 use Rattle.run_laws.specs.OwnLaws.{Accepted}
 use Rattle.run_model.specs.Restarts.{instr_at}
-use Rattle.side_model.specs.Places.{HasBlock}
+use Rattle.side_model.specs.Places.{HasBlock, IsInstruction}
 use Rattle.code_model.specs.Tables.{Tabs, TableOk, all_regions}
 use Rattle.side_model.specs.Tables.{HasTabs}
-use Rattle.rows_log.specs.CallRows.{IsSite}
 use Rattle.hart_step.specs.Core.{Core}
 use Rattle.word_laws.specs.Shown.{ShowsIn, ShowsShadow}
 use Rattle.run_laws.specs.Numbers.{IsSized}
@@ -31,7 +30,7 @@ use Rattle.shadow_walk.specs.declared.walking.Walked.TheVariants as walked
 
 -- the shadow stands at the first word of RESTART, the box has the site of an instruction, and its table and list are consistent
 pub record StandsAnew (w : World) (r : Run) : Type 0 where
-  pub site : IsSite w.image.layout (boxed_site r.shared)
+  pub site : IsInstruction w.image.layout (boxed_site r.shared)
   pub place : r.shadow.pc ≡ helpers_start + RESTART
   pub tables : Tabs
   pub has : HasTabs w.image.layout r.shared tables
@@ -65,7 +64,7 @@ pub record StandsAnswered (w : World) (r : Run) (q : State) : Type 0 where
 
 -- it stands at word 49 of RESTART, the one behind its HCALL, with the address behind a site in the private page
 pub record StandsRestarted (w : World) (r : Run) (site : ℕ) : Type 0 where
-  pub is_site : IsSite w.image.layout site
+  pub is_site : IsInstruction w.image.layout site
   pub place : r.shadow.pc ≡ helpers_start + RESTART + 4 * 48
   pub behind : behind_site r.shadow_page ≡ site + 4
   pub tables : Tabs

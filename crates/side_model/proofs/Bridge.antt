@@ -20,7 +20,7 @@ use Rattle.rv_model.specs.Registers.{Registers, reg, with_reg}
 use Rattle.rv_model.specs.Rights.{in_private, shadow_rights}
 use Rattle.rv_model.specs.Arithmetic.{store_width, is_taken, imm_result, imm_w_result, reg_result, reg_w_result}
 use Rattle.rv_model.specs.Effect.{Stored, effect, after, steps_on, jump_if, branch_if, load_effect, store_effect, even}
-use Rattle.rv_model.specs.Space.{program_byte, shadow_sees}
+use Rattle.rv_model.specs.Space.{program_byte}
 use Rattle.program_model.specs.Calls.{CallPlan, Set, Look, Read, Write, Exit, key_of}
 use Rattle.code_model.specs.Places.{block_at}
 use Rattle.code_model.specs.Regions.{entry_address, listed_address}
@@ -29,6 +29,7 @@ use Rattle.run_model.specs.ShadowMoves.{shadow_after, shadow_at, shadow_stores, 
 use Rattle.rv_model.proofs.Results.{word_of_int-small}
 use Rattle.side_model.specs.Hart.{Regs, get, put, Priv, get_private, put_private, is_place}
 use Rattle.code_model.specs.Tables.{Tabs, TableOk, all_regions}
+use Rattle.own_laws.proofs.InvisibleShadow.{shadow_view}
 use Rattle.side_model.specs.Tables.{HasTabs, with_value}
 use Rattle.side_model.specs.Places.{Place, InBlock, InHelper, Away, address, next, is_inner, IsBase}
 use Rattle.side_model.specs.Words.{Point, Out, Goes, Loads, Stores, Keys, Calls, Parks, Fails, onward, wrote, jumped, branched, private_load, private_store, exec}
@@ -106,7 +107,7 @@ module _ (w : World) (x : Answer) (base : ℕ) (Row : Place → Regs → Priv �
   lands h = Landed l base Row Arrives Why n h
 
   abbrev view : Memory
-  view = shadow_sees l (rewritten_words w) r.own.memory r.shared r.shadow_page
+  view = shadow_view w r
 
   abbrev rs : Registers
   rs = r.shadow.registers

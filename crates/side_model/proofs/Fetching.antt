@@ -1,5 +1,5 @@
 -- The words that the shadow fetches at a place are those of its block or helper.
-use Rattle.std.proofs.Common.{◌≡◌, ℕ, zero, suc, ◌+◌, ◌-◌, ◌*◌, ◌/◌, ◌%◌, ◌^◌, ◌<◌, ◌≤◌, Bool, true, false, ◌&&◌, ◌==◌, List, [], ◌∷◌, ◌++◌, length, take, drop, slice_get, Some, None, refl, ◌∙◌, ap, ap₂, sym, arith, nat_le, le-leb, eq-eqb, zero-add, suc-add, lit<}
+use Rattle.std.proofs.Common.{◌≡◌, ℕ, zero, suc, ◌+◌, ◌-◌, ◌*◌, ◌/◌, ◌%◌, ◌^◌, ◌<◌, ◌≤◌, Bool, true, false, ◌&&◌, ◌==◌, List, [], ◌∷◌, ◌++◌, length, take, drop, slice_get, Some, None, refl, ◌∙◌, ap, ap₂, sym, arith, nat_le, le-leb, eq-eqb, lit<}
 use Rattle.std.specs.Option.{option_and_then}
 use Rattle.std.proofs.lemmas.Option.{slice_get_within}
 use Rattle.std.proofs.lemmas.Bool.{and_from}
@@ -13,6 +13,7 @@ use Rattle.code_model.specs.Helpers.{helpers}
 use Rattle.code_model.specs.Places.{block_at}
 use Rattle.run_model.specs.Run.{World}
 use Rattle.run_model.specs.ShadowMoves.{fetch_shadow, fetch_by}
+use Rattle.own_laws.proofs.StubWords.{slice_get-append}
 use Rattle.side_model.specs.Places.{W1, W2, W4, W8, Helper, Loading, Storing, Jumping, LoadTail, StoreTail, Appending, Restarting, Faulting, FullUp, LogFullUp, offset_of, helper_words, Place, InBlock, InHelper, Away, address, code, IsBase}
 
 -- ---- helpers
@@ -43,11 +44,6 @@ helper_is l Faulting = record { whole = refl; before = refl; parts = refl; most 
 helper_is l FullUp = record { whole = refl; before = refl; parts = refl; most = lit< tt }
 helper_is l LogFullUp = record { whole = refl; before = refl; parts = refl; most = lit< tt }
 
--- what stands behind a list is the next list's
-slice_get-behind : {X : Type 0} (xs ys : List X) (n : ℕ) → slice_get (xs ++ ys) (length xs + n) ≡ slice_get ys n
-slice_get-behind [] ys n = ap (slice_get ys) (zero-add n)
-slice_get-behind (x ∷ xs) ys n = ap (slice_get (x ∷ (xs ++ ys))) (suc-add (length xs) n) ∙ slice_get-behind xs ys n
-
 -- what stands in a list stands in a longer one
 slice_get-ahead : {X : Type 0} (xs ys : List X) (n : ℕ) (x : X) → slice_get xs n ≡ Some x → slice_get (xs ++ ys) n ≡ Some x
 slice_get-ahead [] ys n x e = absurd (no e)
@@ -63,13 +59,13 @@ helper_word l h n i e =
     let is : HelperIs l h = helper_is l h in
     let k : ℕ = offset_of h / 4 in
     ap₂ (λ (words : List Instr) (j : ℕ). slice_get words (j + n)) is.parts (sym is.before)
-    ∙ slice_get-behind (take k (helpers l)) (helper_words l h ++ drop (k + length (helper_words l h)) (helpers l)) n
+    ∙ slice_get-append (take k (helpers l)) (helper_words l h ++ drop (k + length (helper_words l h)) (helpers l)) n
     ∙ slice_get-ahead (helper_words l h) _ n i e
 
 -- ---- blocks
 
 -- the block of an instruction stands at the instruction's number
-block_of : (l : Layout) (p : ℕ) (text : List Instr) (j : ℕ) (i : Instr) → slice_get text j ≡ Some i → slice_get (blocks_from l p text) j ≡ Some (block l (p + 4 * j) i)
+pub block_of : (l : Layout) (p : ℕ) (text : List Instr) (j : ℕ) (i : Instr) → slice_get text j ≡ Some i → slice_get (blocks_from l p text) j ≡ Some (block l (p + 4 * j) i)
 block_of l p [] j i e = absurd (no e)
   where
     no : None ≡ Some i → ⊥
@@ -78,7 +74,7 @@ block_of l p (x ∷ text) zero i e = let is : x ≡ i = cc in ap (λ (y : Instr)
 block_of l p (x ∷ text) (suc j) i e = block_of l (p + 4) text j i e ∙ ap (λ (n : ℕ). Some (block l n i)) (omega arith)
 
 -- the guard block stands behind the last
-guard_of : (l : Layout) (p : ℕ) (text : List Instr) → slice_get (blocks_from l p text) (length text) ≡ Some guard_block
+pub guard_of : (l : Layout) (p : ℕ) (text : List Instr) → slice_get (blocks_from l p text) (length text) ≡ Some guard_block
 guard_of l p [] = refl
 guard_of l p (x ∷ text) = guard_of l (p + 4) text
 

@@ -16,7 +16,7 @@ use Rattle.rv_model.specs.Registers.{Registers, reg, with_reg}
 use Rattle.rv_model.specs.Rights.{shadow_rights}
 use Rattle.rv_model.specs.Arithmetic.{store_width, is_taken}
 use Rattle.rv_model.specs.Effect.{Effect, Stored, effect, steps_on, after, jump_if, jumps_to, branch_if, load_effect, store_effect, even}
-use Rattle.rv_model.specs.Space.{program_byte, shadow_sees}
+use Rattle.rv_model.specs.Space.{program_byte}
 use Rattle.code_model.specs.Regions.{entry_address, listed_address}
 use Rattle.run_model.specs.Run.{World, Run, rewritten_words}
 use Rattle.run_model.specs.ShadowMoves.{fetch_shadow}
@@ -27,6 +27,7 @@ use Rattle.side_model.specs.Words.{Point, Out, Goes, Loads, Stores, Fails, onwar
 use Rattle.side_model.specs.Rows.{Led, takes_entry, takes_count, takes_listed, takes_link, takes_program, takes_copy, puts_entry, puts_count, puts_listed, puts_link, puts_copy}
 use Rattle.side_model.specs.Sees.{shade_of, Sees}
 use Rattle.run_laws.specs.Completes.{Completes, goes_on, stores, asks_key, asks_call, asks_park, WordCompletes}
+use Rattle.own_laws.proofs.InvisibleShadow.{shadow_view}
 use Rattle.side_model.proofs.Private.{get_private-place}
 use Rattle.side_model.proofs.Fetching.{CodeAt, code-fetches}
 use Rattle.side_model.proofs.Tabling.{all_regions-most}
@@ -50,7 +51,7 @@ module _ (w : World) (base : ℕ) (Row : Place → Regs → Priv → Tabs → Me
   leads o = Led l program base Row Arrives Why n o
 
   abbrev view : Memory
-  view = shadow_sees l (rewritten_words w) r.own.memory r.shared r.shadow_page
+  view = shadow_view w r
 
   abbrev rs : Registers
   rs = r.shadow.registers
@@ -191,13 +192,13 @@ module _ (w : World) (base : ℕ) (Row : Place → Regs → Priv → Tabs → Me
 module _ (w : World) (base : ℕ) (words : List Instr) (at : CodeAt w base words) (r : Run) (s : Point) (here : Sees w.image.layout base (shade_of r) s r.shared) where
   -- a word of the block at hand or of a helper is fetched; what it does at the address of its place, it does at the pc
   at-place : (i : Instr) → code w.image.layout words s.place ≡ Some i
-      → Completes (effect Shadow (shadow_rights w.image.layout) (shadow_sees w.image.layout (rewritten_words w) r.own.memory r.shared r.shadow_page) r.shadow.registers (address base s.place) i)
+      → Completes (effect Shadow (shadow_rights w.image.layout) (shadow_view w r) r.shadow.registers (address base s.place) i)
       → WordCompletes w r
   at-place i e c =
       record {
         word = i;
         fetched = ap (fetch_shadow w) here.pc ∙ (code-fetches w base words s.place i at e).word;
-        completes = subst (λ (pc : ℕ). Completes (effect Shadow (shadow_rights w.image.layout) (shadow_sees w.image.layout (rewritten_words w) r.own.memory r.shared r.shadow_page) r.shadow.registers pc i)) (sym here.pc) c;
+        completes = subst (λ (pc : ℕ). Completes (effect Shadow (shadow_rights w.image.layout) (shadow_view w r) r.shadow.registers pc i)) (sym here.pc) c;
       }
 
   -- where it is led, it completes

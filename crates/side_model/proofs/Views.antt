@@ -1,31 +1,23 @@
 -- What the shadow loads and stores where: its rights, and the part of its memory that has the bytes.
 use Rattle.std.proofs.Common.{◌≡◌, ℕ, zero, suc, ◌+◌, ◌*◌, ◌/◌, ◌%◌, ◌^◌, ◌<◌, ◌≤◌, Bool, true, false, ◌||◌, List, refl, ◌∙◌, ap, ap₂, arith, eq-eqb}
 use Rattle.std.proofs.lemmas.Bool.Decides.{nat_tests}
-use Rattle.std.proofs.lemmas.Bool.{and_from}
 use Rattle.spec_base.specs.Layout.{range_start, range_end, link_start, link_bytes, table_start, list_start, copies_start, private_start}
 use Rattle.spec_base.specs.declared.layout.Version.{Version}
 use Rattle.spec_base.specs.declared.layout.Version.TheVariants.{One, Two}
 use Rattle.spec_base.specs.declared.layout.Layout.{Layout}
 use Rattle.rv_decode.specs.declared.instr.LoadOp.{LoadOp}
-use Rattle.rv_model.specs.Memory.{Memory, loaded, all_from}
+use Rattle.rv_model.specs.Memory.{Memory, loaded}
 use Rattle.rv_model.specs.Registers.{Registers, with_reg}
 use Rattle.rv_model.specs.Rights.{in_private, in_range, in_shared, in_link, in_table, in_list, in_copies, list_bytes, shadow_rights}
 use Rattle.rv_model.specs.Arithmetic.{load_width, extended}
 use Rattle.rv_model.specs.Effect.{Stored, load_effect, load_if, store_effect, store_if, steps_on}
 use Rattle.rv_model.specs.Space.{program_byte, shadow_sees}
+use Rattle.rv_model.proofs.DataLemmas.{all_from-holds}
 use Rattle.code_model.specs.Regions.{entry_address, listed_address}
 use Rattle.code_model.specs.Tables.{all_regions}
 
--- ---- tests over a stretch
-
--- a test that holds at each address of a stretch holds from its first on
-all_from-each : (test : ℕ → Bool) (a n : ℕ) → ((x : ℕ) → a ≤ x → x < a + n → test x ≡ true) → all_from test a n ≡ true
-unfolding all_from
-all_from-each test a zero h = refl
-all_from-each test a (suc n) h = and_from (test a) _ (h a (omega arith) (omega arith)) (all_from-each test (a + 1) n (λ x l k. h x (omega arith) (omega arith)))
-
 -- the program range ends at or below the emitted code
-range-most : (v : Version) → range_end v ≤ 0x4000_0000
+pub range-most : (v : Version) → range_end v ≤ 0x4000_0000
 range-most One = omega arith
 range-most Two = omega arith
 
@@ -150,7 +142,7 @@ module _ (l : Layout) where
       loads : (op : LoadOp) (rd a v : ℕ) → a % load_width op ≡ 0 → ((x : ℕ) → a ≤ x → x < a + load_width op → (shadow_rights l).load x ≡ true) → loaded view a (load_width op) ≡ v
           → load_effect (shadow_rights l) view op rs pc rd a ≡ steps_on (with_reg rs rd (extended op v)) pc
       loads op rd a v even h e =
-          ap₂ (λ (b c : Bool). load_if b c view op rs pc rd a) (eq-eqb (a % load_width op) 0 even) (all_from-each (shadow_rights l).load a (load_width op) h)
+          ap₂ (λ (b c : Bool). load_if b c view op rs pc rd a) (eq-eqb (a % load_width op) 0 even) (all_from-holds (shadow_rights l).load a (load_width op) h)
           ∙ ap (λ (x : ℕ). steps_on (with_reg rs rd (extended op x)) pc) e
 
       -- of the private page
@@ -172,7 +164,7 @@ module _ (l : Layout) where
 
   -- a store of a number that may be stored
   stores : (a width v : ℕ) → a % width ≡ 0 → ((x : ℕ) → a ≤ x → x < a + width → (shadow_rights l).store x ≡ true) → store_effect (shadow_rights l) a width v ≡ Stored a width v
-  stores a width v even h = ap₂ (λ (b c : Bool). store_if b c a width v) (eq-eqb (a % width) 0 even) (all_from-each (shadow_rights l).store a width h)
+  stores a width v even h = ap₂ (λ (b c : Bool). store_if b c a width v) (eq-eqb (a % width) 0 even) (all_from-holds (shadow_rights l).store a width h)
 
   -- to the private page
   pub stores-private : (a width v : ℕ) → a % width ≡ 0 → private_start ≤ a → a + width ≤ 2 ^ 64 → store_effect (shadow_rights l) a width v ≡ Stored a width v

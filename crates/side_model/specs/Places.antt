@@ -1,6 +1,6 @@
 -- The places of the shadow's words: in the block at hand, or in a helper (this project's own).
-use Rattle.std.specs.Prelude.{ℕ, suc, ◌+◌, ◌-◌, ◌*◌, ◌%◌, ◌≡◌, ◌≤◌, Bool, true, false, not, ◌&&◌, ◌==◌, nat_lt, List, [], ◌∷◌, ◌++◌, slice_get, Option, None}
-use Rattle.spec_base.specs.Layout.{helpers_start, shadow_start}
+use Rattle.std.specs.Prelude.{ℕ, suc, ◌+◌, ◌-◌, ◌*◌, ◌%◌, ◌≡◌, ◌≤◌, Bool, true, false, not, ◌&&◌, ◌==◌, nat_lt, List, [], ◌∷◌, ◌++◌, slice_get, Option, None, ◌<◌, IsTrue}
+use Rattle.spec_base.specs.Layout.{helpers_start, shadow_start, is_lawful}
 use Rattle.spec_base.specs.declared.layout.Layout.{Layout}
 use Rattle.spec_base.specs.declared.park.Park.TheVariants as park
 use Rattle.rv_decode.specs.declared.instr.Instr.{Instr}
@@ -118,3 +118,10 @@ pub record HasBlock (l : Layout) (p : ℕ) : Type 0 where
   pub above : l.text_start ≤ p
   pub below : p ≤ l.text_end
   pub whole : (p - l.text_start) % 4 ≡ 0
+
+-- an instruction of the program stands at p
+pub record IsInstruction (l : Layout) (p : ℕ) : Type 0 where
+  pub lawful : IsTrue (is_lawful l)
+  pub above : l.text_start ≤ p
+  pub below : p < l.text_end
+  pub whole : p % 4 ≡ 0

@@ -11,6 +11,11 @@ pub record HasTabs (l : Layout) (shared : Memory) (t : Tabs) : Type 0 where
   pub count : slots_in_use shared ≡ t.count
   pub listed : (slot : ℕ) → slot < l.regions → loaded shared (listed_address slot) 4 ≡ t.listed slot
 
+-- a word that changes neither the tables nor the memory
+pub record IsUnchanged (t : Tabs) (m : Memory) (t' : Tabs) (m' : Memory) : Type 0 where
+  pub tables : t' ≡ t
+  pub memory : m' ≡ m
+
 -- a function with another value at one number
 abbrev pub with_value : ℕ → ℕ → (ℕ → ℕ) → ℕ → ℕ
 with_value n v f k = cond (k == n) v (f k)

@@ -5,13 +5,14 @@ use Rattle.std.proofs.lemmas.List.{with_items_is}
 use Rattle.std.proofs.lemmas.Bool.Decides.{nat_tests}
 use Rattle.spec_base.specs.declared.spot.BlockSpot.{BlockSpot}
 use Rattle.program_model.specs.Cache.{Gathered, gather, blocks_of}
+use Rattle.own_laws.proofs.Demand.{few_blocks}
 use Rattle.machine_laws.specs.OneMachine.{space_of_run}
 use Rattle.cache_queue.specs.State.{lists}
 use Rattle.runner_parts.specs.Gathers.{gathered}
 use Rattle.runner_parts.specs.OwnCalls.{gathered_on}
 use Rattle.runner_parts.specs.Parts.{demand_if}
 use Rattle.runner_parts.specs.Staged.{joined}
-use Rattle.runner_parts.proofs.Blocks.{some-behind, few-blocks}
+use Rattle.runner_parts.proofs.Blocks.{some-behind}
 use Rattle.runner_parts.proofs.ReadFronts.{HasFront, has-front, silent-text}
 use Rattle.runner.proofs.runner.Runner.gather.Goals as goal
 
@@ -74,7 +75,7 @@ returns-clause-shows c w r d a h plan =
           planned = plan.planned;
           some = subst (λ (k : ℕ). k ≤ length blocks) had c.need_rest-had.ensures.within;
           more = λ e. subst (λ (k : ℕ). k < length blocks) had (grind (arith, nat_tests, waits ∙ e));
-          few = few-blocks c.args.spot.now c.requires.count;
+          few = few_blocks c.args.spot.now c.requires.count;
           staged_are = ap (λ (k : List ℕ). take (4096 * (gathered_on r c.args.spot.now).had) k) is ∙ subst (λ (k : ℕ). take (4096 * k) c.need_rest-had.new.into ≡ joined w.files (take k blocks)) had (c.need_rest-had.ensures.staged w.files low h.cache.contents before);
           demanded = sym (ap (λ (g : Gathered). g.cache.demanded) on) ∙ c.need_rest-had.ensures.demanded ∙ (λ i. demand_if (waits i) (slice_get blocks (had i)));
         }));
