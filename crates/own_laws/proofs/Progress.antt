@@ -243,12 +243,6 @@ pub start-keeps : (w : World) (a : Accepted w) → Keeps w a (opened_run w)
 unfolding run_from
 start-keeps w a = record { side = own_side w a []; demand = λ z. record { same = refl; room = λ e. false_true e } }
 
--- in every run that goes on, the own hart is stalled exactly where a block is demanded, and then its read has fewer than 17 blocks
-pub run-demand : (w : World) → Accepted w → (ms : Moves) → (run w ms).end ≡ None → Demand (run w ms)
-unfolding run_from
-run-demand w a ms z =
-    (all_keeps w a ms (opened_run w) (record { side = own_side w a []; demand = λ z. record { same = refl; room = λ e. false_true e } })).demand z
-
 -- the program gets on
 pub progresses : Progress
 unfolding run_from

@@ -1,11 +1,11 @@
 -- What the laws of the own side speak of: the program's part of a run, with what is counted since the last restart.
-use Rattle.std.proofs.Common.{◌≡◌, ℕ, Bool, List, Option, refl}
+use Rattle.std.proofs.Common.{◌≡◌, ℕ, Bool, List, Option}
 use Rattle.spec_base.specs.declared.machine.View.{View}
 use Rattle.spec_base.specs.declared.spot.BlockSpot.{BlockSpot}
 use Rattle.rv_model.specs.Memory.{Memory}
 use Rattle.program_model.specs.PlainRun.{State}
 use Rattle.run_model.specs.Run.{Run, RunEnd}
-use Rattle.run_laws.specs.OwnLaws.{OwnPart, own_part}
+use Rattle.run_laws.specs.OwnLaws.{OwnPart}
 
 -- ---- counts
 
@@ -68,18 +68,10 @@ with_side r p =
       end = p.end;
     }
 
--- a run is itself with its own side
-with_side_of : (r : Run) → with_side r (side_of r) ≡ r
-with_side_of r = refl
-
 -- the program's part of an own side
 abbrev pub part_of : Side → OwnPart
 part_of p =
     record { own = p.own; site = p.site; view = p.view; page = p.page; asked = p.tally.asked; stalled = p.stalled; gathered = p.tally.gathered; done = p.tally.done; end = p.end }
-
--- it is the run's
-part_of_side : (r : Run) → part_of (side_of r) ≡ own_part r
-part_of_side r = refl
 
 -- ---- what a move of the shadow keeps: the own side, the bytes put, and the demanded block
 

@@ -1,5 +1,5 @@
 -- A word of the shadow that is no store through a register leaves the link, and most words are none.
-use Rattle.std.proofs.Common.{◌≡◌, ℕ, zero, suc, ◌%◌, Bool, true, false, not, ◌&&◌, ◌==◌, List, [], ◌∷◌, Some, None, refl, ap, subst, sym}
+use Rattle.std.proofs.Common.{◌≡◌, ℕ, zero, suc, ◌%◌, Bool, true, false, not, ◌&&◌, ◌==◌, List, [], ◌∷◌, Some, None, refl, subst, sym}
 use Rattle.spec_base.specs.Word.{plus_int}
 use Rattle.spec_base.specs.declared.layout.Layout.{Layout}
 use Rattle.spec_base.specs.declared.machine.View.TheVariants.{Shadow}
@@ -13,13 +13,12 @@ use Rattle.rv_model.specs.Registers.{Registers, reg}
 use Rattle.rv_model.specs.Rights.{in_private, shadow_rights}
 use Rattle.rv_model.specs.Arithmetic.{store_width, is_taken}
 use Rattle.rv_model.specs.Effect.{Effect, effect, jump_if, branch_if, load_if, store_if}
-use Rattle.code_model.specs.Blocks.{block, guard_block, with_pad, jal_if, taken_word, is_target, load_restore, link_spill}
 use Rattle.run_model.specs.Run.{World, Run, Answer}
 use Rattle.run_model.specs.ShadowMoves.{shadow_in, shadow_after, shadow_stores, shadow_plan, fetch_shadow}
 use Rattle.side_model.specs.Places.{Helper, Loading, Storing, Jumping, LoadTail, StoreTail, Appending, Restarting, Faulting, FullUp, LogFullUp, W1, W2, W4, W8, helper_words}
 use Rattle.side_model.specs.Sees.{Shade}
 use Rattle.rows_log.specs.Queue.{LeavesLink}
-use Rattle.rows_log.specs.LinkWords.{stores_out, NoneStores, is_store, has_stores, BlocksStoreNot, GuardStoresNot, HelpersStoreNot, WordsLeaveLink}
+use Rattle.rows_log.specs.LinkWords.{stores_out, NoneStores, has_stores, HelpersStoreNot, WordsLeaveLink}
 use Rattle.rows_log.proofs.CallsLeave.{calls-leave_link}
 use Rattle.side_model.proofs.Stepping.{shade-step}
 
@@ -55,57 +54,7 @@ none-each (x ∷ words) h (suc n) i e = none-each words (rest (stores_out x) (no
 
 -- ---- blocks with a choice
 
-jal-none : (b : Bool) (l : Layout) (p rd t : ℕ) → none_stores (with_pad (jal_if b l p rd t)) ≡ true
-jal-none true l p rd t = refl
-jal-none false l p rd t = refl
-
-spill-none : (b : Bool) → stores_out (link_spill b) ≡ false
-spill-none true = refl
-spill-none false = refl
-
-restore-none : (b : Bool) → stores_out (load_restore b) ≡ false
-restore-none true = refl
-restore-none false = refl
-
-taken-none : (b : Bool) (l : Layout) (p t : ℕ) → stores_out (taken_word b l p t) ≡ false
-taken-none true l p t = refl
-taken-none false l p t = refl
-
 -- ---- statements on words
-
-block-none : (l : Layout) (p : ℕ) (i : Instr) → is_store i ≡ false → none_stores (block l p i) ≡ true
-block-none l p (Lui rd imm) h = refl
-block-none l p (Auipc rd imm) h = refl
-block-none l p (Jal rd imm) h = jal-none (is_target l (plus_int p imm)) l p rd (plus_int p imm)
-block-none l p (Jalr rd rs1 imm) h = ap (λ (b : Bool). not b && true) (spill-none (rd == 31))
-block-none l p (Branch op rs1 rs2 imm) h = ap (λ (b : Bool). not b && true) (taken-none (is_target l (plus_int p imm)) l p (plus_int p imm))
-block-none l p (Load op rd rs1 imm) h = ap (λ (b : Bool). not b && true) (restore-none (rd == 31))
-block-none l p (Store op rs1 rs2 imm) h = absurd (no h)
-  where
-    no : true ≡ false → ⊥
-    no e = cc
-block-none l p (OpImm op rd rs1 imm) h = refl
-block-none l p (OpImmW op rd rs1 imm) h = refl
-block-none l p (Op op rd rs1 rs2) h = refl
-block-none l p (OpW op rd rs1 rs2) h = refl
-block-none l p (Fence word) h = refl
-block-none l p Ecall h = refl
-block-none l p Ebreak h = refl
-block-none l p Hgate h = refl
-block-none l p Hleave h = refl
-block-none l p (Hsite rd) h = refl
-block-none l p (Hkey rd) h = refl
-block-none l p Hstop h = refl
-block-none l p Hrestart h = refl
-block-none l p (Hcall unhinted) h = refl
-block-none l p (Hpark cause) h = refl
-block-none l p Illegal h = refl
-
-pub blocks-store_not : BlocksStoreNot
-blocks-store_not l p i h = none-each (block l p i) (block-none l p i h)
-
-pub guard-stores_not : GuardStoresNot
-guard-stores_not = none-each guard_block refl
 
 helper-none : (l : Layout) (h : Helper) → has_stores h ≡ false → none_stores (helper_words l h) ≡ true
 helper-none l (Loading W1) e = refl

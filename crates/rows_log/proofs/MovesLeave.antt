@@ -1,15 +1,14 @@
--- Own moves in the program, and fetches, leave what the shadow and the stub share.
+-- Own moves in the program leave what the shadow and the stub share.
 use Rattle.std.proofs.Common.{◌≡◌, Bool, true, false, Option, Some, None, refl, sym, subst}
 use Rattle.spec_base.specs.declared.machine.View.{View}
-use Rattle.spec_base.specs.declared.note.Move.TheVariants.{O, D}
+use Rattle.spec_base.specs.declared.note.Move.TheVariants.{O}
 use Rattle.rv_decode.specs.declared.instr.Instr.{Instr}
 use Rattle.rv_model.specs.Effect.{fetched}
-use Rattle.program_model.specs.Cache.{in_flight}
 use Rattle.run_model.specs.Run.{World, Run, RunEnd, rewritten_text}
 use Rattle.run_model.specs.OwnMoves.{program_at, own_in, own_unless}
 use Rattle.run_model.specs.Moves.{step_unless, begun}
-use Rattle.own_laws.proofs.OwnSteps.{program_at-by, fetch_of-by}
-use Rattle.rows_log.specs.OtherMoves.{ProgramLeavesShared, FetchLeavesShared}
+use Rattle.own_laws.proofs.OwnSteps.{program_at-by}
+use Rattle.rows_log.specs.OtherMoves.{ProgramLeavesShared}
 
 -- ---- the program
 
@@ -31,10 +30,3 @@ program-leaves w r x h = by_end r.end
     by_end None = by_stall r.stalled
 
 -- ---- fetches
-
-pub fetch-leaves : FetchLeavesShared
-fetch-leaves w r x = by_end r.end
-  where
-    by_end : (e : Option RunEnd) → (step_unless e w r (D, x)).shared ≡ r.shared
-    by_end (Some e) = refl
-    by_end None = fetch_of-by w x (begun r) (λ next. next.shared ≡ r.shared) (λ b. refl) (in_flight r.cache)

@@ -6,7 +6,7 @@ use Rattle.spec_base.specs.Layout.{link_start, table_start}
 use Rattle.rv_model.specs.Memory.{Memory, patched, stored, loaded}
 use Rattle.rv_model.proofs.Loads.{loaded-below_patch, loaded-above_patch, loaded-stored}
 use Rattle.code_model.specs.Log.{log_head, log_tail, log_place, logged, IsQueue}
-use Rattle.rows_log.specs.Queue.{HasRoom, LeavesLink, leaves, puts_key, puts_count, raises_tail, KeepsQueue, StepsKeepQueue, LeavingKeepsQueue, TakingKeepsQueue, HeadTakes, StepsLeaveBox, HeadLeavesBox}
+use Rattle.rows_log.specs.Queue.{HasRoom, LeavesLink, leaves, puts_key, puts_count, raises_tail, KeepsQueue, StepsKeepQueue, LeavingKeepsQueue, TakingKeepsQueue, HeadTakes, StepsLeaveBox}
 
 -- ---- a store at the place of a pair, which isn't that of head or tail
 
@@ -98,9 +98,6 @@ steps-leave_box count place m m' (leaves e) a h = ap (λ (m : Memory). m a) e
 steps-leave_box count place m m' (puts_key key p r e) a h = ap (λ (m : Memory). m a) e ∙ stored-behind m (log_place (log_tail m)) key a (omega arith)
 steps-leave_box count place m m' (puts_count p r e) a h = ap (λ (m : Memory). m a) e ∙ stored-behind m (log_place (log_tail m) + 8) count a (omega arith)
 steps-leave_box count place m m' (raises_tail key p r k e) a h = ap (λ (m : Memory). m a) e ∙ stored-behind m (link_start + 8) (log_tail m + 1) a (omega arith)
-
-pub head-leaves_box : HeadLeavesBox
-head-leaves_box m head a h = stored-behind m link_start head a (omega arith)
 
 -- ---- words that leave the link
 

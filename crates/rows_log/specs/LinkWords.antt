@@ -1,11 +1,10 @@
--- Which words of the shadow may store to what it shares: those of the blocks of stores, of STAIL, APPEND and RESTART (this project's own).
+-- Words that may store to what the shadow shares: of the helpers those of STAIL, APPEND and RESTART (this project's own).
 use Rattle.std.specs.Prelude.{ℕ, zero, suc, ◌≡◌, Bool, true, false, not, List, slice_get, Some}
 use Rattle.spec_base.specs.Word.{plus_int}
 use Rattle.spec_base.specs.declared.layout.Layout.{Layout}
 use Rattle.rv_decode.specs.declared.instr.Instr.{Instr}
 use Rattle.rv_decode.specs.declared.instr.Instr.TheVariants.{Store}
 use Rattle.rv_model.specs.Rights.{in_private}
-use Rattle.code_model.specs.Blocks.{block, guard_block}
 use Rattle.run_model.specs.Run.{World, Run, Answer}
 use Rattle.run_model.specs.ShadowMoves.{fetch_shadow, shadow_step}
 use Rattle.side_model.specs.Places.{Helper, StoreTail, Appending, Restarting, helper_words}
@@ -21,11 +20,6 @@ stores_out _ = false
 abbrev pub NoneStores : List Instr → Type 0
 NoneStores words = (n : ℕ) (i : Instr) → slice_get words n ≡ Some i → stores_out i ≡ false
 
--- a store of the program
-abbrev pub is_store : Instr → Bool
-is_store (Store op rs1 rs2 imm) = true
-is_store _ = false
-
 -- a helper that stores to what the shadow shares
 abbrev pub has_stores : Helper → Bool
 has_stores StoreTail = true
@@ -35,21 +29,9 @@ has_stores _ = false
 
 -- ---- statements
 
--- the blocks of all other instructions have none of them
-abbrev pub BlocksStoreNot : Type 0
-BlocksStoreNot = (l : Layout) (p : ℕ) (i : Instr) → is_store i ≡ false → NoneStores (block l p i)
-
--- nor has the guard block
-abbrev pub GuardStoresNot : Type 0
-GuardStoresNot = NoneStores guard_block
-
--- nor have all other helpers
+-- no helper has one but STAIL, APPEND and RESTART
 abbrev pub HelpersStoreNot : Type 0
 HelpersStoreNot = (l : Layout) (h : Helper) → has_stores h ≡ false → NoneStores (helper_words l h)
-
--- In each run a word of the shadow that is no store through a register leaves the link. No word of a
--- block is such a store but in the blocks of stores, and no word of a helper but in STAIL, APPEND and
--- RESTART. An own move in the program and the end of a fetch leave all that is shared.
 
 -- in each run every other word leaves the link
 abbrev pub WordsLeaveLink : Type 0

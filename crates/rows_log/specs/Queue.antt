@@ -48,8 +48,7 @@ pub record KeepsQueue (m m' : Memory) : Type 0 where
 -- The hint log is a queue of at most 64 pairs between any two words: a word of a call only appends
 -- to it, one pair at most, where its tail is below 2^64 - 1; a word that leaves the link and a call
 -- that is assumed leave it; and the own hart takes pairs from it where it raises the head up to the
--- tail. Neither touches the box.
-
+-- tail. A word of a call leaves the box.
 abbrev pub StepsKeepQueue : Type 0
 StepsKeepQueue = (count : ℕ) (place : Place) (m m' : Memory) → IsQueue m → log_tail m < 2 ^ 64 - 1 → LogStep count place m m' → KeepsQueue m m'
 
@@ -64,10 +63,6 @@ LeavingKeepsQueue = (m m' : Memory) → IsQueue m → log_tail m < 2 ^ 64 → Le
 -- pairs that are taken leave a queue
 abbrev pub TakingKeepsQueue : Type 0
 TakingKeepsQueue = (m m' : Memory) → IsQueue m → Takes m m' → IsQueue m'
-
--- a store of another head leaves the box
-abbrev pub HeadLeavesBox : Type 0
-HeadLeavesBox = (m : Memory) (head a : ℕ) → box_start ≤ a → stored m link_start 8 head a ≡ m a
 
 -- it takes pairs, where it is no lower and not past the tail
 abbrev pub HeadTakes : Type 0

@@ -75,12 +75,6 @@ SharedAs (ends g) new old = ⊤
 SharedAs (restarts site g) new old = ⊤
 SharedAs (goes_to to g) new old = new ≡ old
 
-shared-same : (f : Doing) (m : Memory) → SharedAs f m m
-shared-same (does p i g) m = tt
-shared-same (ends g) m = tt
-shared-same (restarts site g) m = tt
-shared-same (goes_to to g) m = refl
-
 shared-next : (f : Doing) (new mid old : Memory) → SharedAs f new mid → SharedAs f mid old → SharedAs f new old
 shared-next (does p i g) new mid old a b = tt
 shared-next (ends g) new mid old a b = tt
