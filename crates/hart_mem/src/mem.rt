@@ -35,6 +35,8 @@ use std::marker::Model;
 pub struct Mem {
     alloc: Global,
     layout: Layout,
+    // The first address after the program range, which each load and each store looks at.
+    end: u64,
     text: Code,
     shadow: Code,
     helpers: Code,
@@ -47,6 +49,8 @@ impl Model for Mem {
 
     ghost Value = { Held };
 
+    ghost use Rattle.std.specs.Prelude.{◌≡◌};
+    ghost use Rattle.spec_base.specs.Layout.{range_end};
     ghost use Rattle.hart_mem.specs.Held.{IsWhole};
 
     ghost view = { λ m. record {
@@ -65,7 +69,7 @@ impl Model for Mem {
       helpers = m.helpers;
       stub = m.stub;
       pages = m.pages;
-    }) };
+    }) × (m.end ≡ range_end m.layout.version) };
 }
 
 /// The most frames that the pages of a version's memory and 17 spare ones can take.
@@ -89,12 +93,14 @@ impl Mem {
     {
         let count = page_count(&layout);
         let mut pages = PageMap::new(alloc, count, most_frames(layout.version))?;
-        let first = (layout.version.range_end() / 4096) as usize;
+        let end = layout.version.range_end();
+        let first = (end / 4096) as usize;
         pages.obtain_all(first, count)?;
         let text = Code::new(alloc, text)?;
         Ok(Mem {
             alloc,
             layout,
+            end,
             text,
             shadow: Code::none(alloc),
             helpers: Code::none(alloc),
@@ -212,7 +218,7 @@ impl Mem {
         if address % size != 0 {
             return Err(Access::Unaligned);
         }
-        match find_to_load(view, &self.layout, address, size) {
+        match find_to_load(view, &self.layout, self.end, address, size) {
             Some(place) => Ok(self.number(view, address, place, size)),
             None => Err(Access::Out),
         }
@@ -327,7 +333,7 @@ impl Mem {
         if address % size != 0 {
             return Err(StoreFault::Unaligned);
         }
-        let Some(place) = find_to_store(view, &self.layout, address, size) else {
+        let Some(place) = find_to_store(view, &self.layout, self.end, address, size) else {
             return Err(StoreFault::Out);
         };
         if !self.put(view, address, place, size, value) {

@@ -14,6 +14,7 @@ use spec_base::{Reg, Trap, View};
 
 impl Hart {
     /// Meets a gate instruction, each of which is legal in its views alone.
+    #[inline(always)]
     pub(crate) fn pass(&mut self, gate: Instr) -> Event
         ensures { (lacks : ℕ → Bool) (s : Space) → outcome result (core_of self.new) s ≡ stepped lacks (gate_effect (core_of self.old).view gate) (core_of self.old) s }
     {
@@ -25,6 +26,7 @@ impl Hart {
         }
     }
 
+    #[inline(always)]
     fn pass_in_program(&mut self, gate: Instr) -> Event
         ensures { (lacks : ℕ → Bool) (s : Space) → outcome result (core_of self.new) s ≡ stepped lacks (gate_effect View.Program gate) (core_of self.old) s }
     {
@@ -37,6 +39,7 @@ impl Hart {
         }
     }
 
+    #[inline(always)]
     fn pass_in_stub(&mut self, gate: Instr) -> Event
         ensures { (lacks : ℕ → Bool) (s : Space) → outcome result (core_of self.new) s ≡ stepped lacks (gate_effect View.Stub gate) (core_of self.old) s }
     {
@@ -60,6 +63,7 @@ impl Hart {
         }
     }
 
+    #[inline(always)]
     fn pass_in_shadow(&mut self, gate: Instr) -> Event
         ensures { (lacks : ℕ → Bool) (s : Space) → outcome result (core_of self.new) s ≡ stepped lacks (gate_effect View.Shadow gate) (core_of self.old) s }
     {

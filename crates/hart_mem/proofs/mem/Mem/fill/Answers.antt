@@ -18,21 +18,21 @@ unfolding space_of
 fill-requires-clause-inside c =
     let some : 1 ≤ length c.args.bytes.now = grind (arith, nat_tests) in
     let all = rw (← c.self.view_is) at c.requires in
-    range_pages (the_view c.self.inside) c.self.invariant (c.args.address + length c.args.bytes.now) (data_ends (the_view c.self.inside) c.self.invariant c.args.address (length c.args.bytes.now) some all)
+    range_pages (the_view c.self.inside) c.self.invariant.0 (c.args.address + length c.args.bytes.now) (data_ends (the_view c.self.inside) c.self.invariant.0 c.args.address (length c.args.bytes.now) some all)
 
 pub fill-requires-clause-fits : goal.fill-requires-clause-fits
 unfolding space_of
 fill-requires-clause-fits c =
     let some : 1 ≤ length c.args.bytes.now = grind (arith, nat_tests) in
     let all = rw (← c.self.view_is) at c.requires in
-    let ends : c.args.address + length c.args.bytes.now ≤ range_end c.self.inside.layout.version = data_ends (the_view c.self.inside) c.self.invariant c.args.address (length c.args.bytes.now) some all in
+    let ends : c.args.address + length c.args.bytes.now ≤ range_end c.self.inside.layout.version = data_ends (the_view c.self.inside) c.self.invariant.0 c.args.address (length c.args.bytes.now) some all in
     omega (arith, range_end-below c.self.inside.layout.version)
 
 pub returns-clause-ok : goal.returns-clause-ok
 unfolding space_of
 returns-clause-ok c =
     let all = rw (← c.self.view_is) at c.requires in
-    on_ok c.fill.result (λ e. rw (← c.self.view_is) (filled_space (the_view c.self.inside) c.fill.new.self c.self.invariant c.args.address c.args.bytes.now all e)) c.fill.ensures.ok
+    on_ok c.fill.result (λ e. rw (← c.self.view_is) (filled_space (the_view c.self.inside) c.fill.new.self c.self.invariant.0 c.args.address c.args.bytes.now all e)) c.fill.ensures.ok
 
 pub fill-requires-clause-some : goal.fill-requires-clause-some
 fill-requires-clause-some c = grind (arith, nat_tests)

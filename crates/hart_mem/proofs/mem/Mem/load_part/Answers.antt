@@ -10,13 +10,13 @@ pub fill-requires-clause-inside : goal.fill-requires-clause-inside
 unfolding space_of
 fill-requires-clause-inside c =
     let below = rw (← c.self.view_is) at c.requires.below in
-    range_pages (the_view c.self.inside) c.self.invariant (c.args.address + length c.args.bytes.now) below
+    range_pages (the_view c.self.inside) c.self.invariant.0 (c.args.address + length c.args.bytes.now) below
 
 pub returns-clause-ok : goal.returns-clause-ok
 unfolding space_of
 returns-clause-ok c =
     let below = rw (← c.self.view_is) at c.requires.below in
-    on_ok c.fill.result (λ e. rw (← c.self.view_is) (loaded_space (the_view c.self.inside) c.self.invariant c.fill.new.self c.args.address c.args.bytes.now c.requires.above below e)) c.fill.ensures.ok
+    on_ok c.fill.result (λ e. rw (← c.self.view_is) (loaded_space (the_view c.self.inside) c.self.invariant.0 c.fill.new.self c.args.address c.args.bytes.now c.requires.above below e)) c.fill.ensures.ok
 
 pub fill-requires-clause-some : goal.fill-requires-clause-some
 fill-requires-clause-some c = grind (arith, nat_tests)

@@ -12,23 +12,23 @@ load-requires-clause-size c = c.requires.size
 pub load-requires-clause-inside : goal.load-requires-clause-inside
 load-requires-clause-inside c =
     let all = rw (← c.self.view_is) at c.requires.allowed in
-    let first : IsTrue ((rights_of c.args.view c.self.inside.layout).load c.args.address) = first_right (the_view c.self.inside) c.self.invariant (rights_of c.args.view c.self.inside.layout).load c.args.address c.args.size c.requires.size all in
+    let first : IsTrue ((rights_of c.args.view c.self.inside.layout).load c.args.address) = first_right (the_view c.self.inside) c.self.invariant.0 (rights_of c.args.view c.self.inside.layout).load c.args.address c.args.size c.requires.size all in
     let place = rw (← c.self.view_is) at c.requires.place in
-    rw place (inside_pages (the_view c.self.inside) c.self.invariant c.args.view c.args.address first)
+    rw place (inside_pages (the_view c.self.inside) c.self.invariant.0 c.args.view c.args.address first)
 
 pub load-requires-clause-fits : goal.load-requires-clause-fits
 load-requires-clause-fits c =
     let all = rw (← c.self.view_is) at c.requires.allowed in
-    let first : IsTrue ((rights_of c.args.view c.self.inside.layout).load c.args.address) = first_right (the_view c.self.inside) c.self.invariant (rights_of c.args.view c.self.inside.layout).load c.args.address c.args.size c.requires.size all in
+    let first : IsTrue ((rights_of c.args.view c.self.inside.layout).load c.args.address) = first_right (the_view c.self.inside) c.self.invariant.0 (rights_of c.args.view c.self.inside.layout).load c.args.address c.args.size c.requires.size all in
     let place = rw (← c.self.view_is) at c.requires.place in
-    rw place (in_page (the_view c.self.inside) c.self.invariant c.args.view c.args.address first c.args.size c.requires.size c.requires.aligned)
+    rw place (in_page (the_view c.self.inside) c.self.invariant.0 c.args.view c.args.address first c.args.size c.requires.size c.requires.aligned)
 
 pub returns-clause-value : goal.returns-clause-value
 returns-clause-value c =
     let all = rw (← c.self.view_is) at c.requires.allowed in
     let off = rw (← c.self.view_is) at c.requires.off in
     let place = rw (← c.self.view_is) at c.requires.place in
-    rw (← c.self.view_is) (c.load.ensures.value ∙ ap (λ (p : ℕ). loaded (flat c.self.inside.pages) p c.args.size) place ∙ number_seen (the_view c.self.inside) c.self.invariant c.args.view c.args.address c.args.size c.requires.size c.requires.aligned all off)
+    rw (← c.self.view_is) (c.load.ensures.value ∙ ap (λ (p : ℕ). loaded (flat c.self.inside.pages) p c.args.size) place ∙ number_seen (the_view c.self.inside) c.self.invariant.0 c.args.view c.args.address c.args.size c.requires.size c.requires.aligned all off)
 
 pub returns-clause-bytes : goal.returns-clause-bytes
 returns-clause-bytes c = λ i h.
@@ -36,4 +36,4 @@ returns-clause-bytes c = λ i h.
     let off = rw (← c.self.view_is) at c.requires.off in
     let place = rw (← c.self.view_is) at c.requires.place in
     let small = rw place at c.load.ensures.bytes in
-    rw (← c.self.view_is, byte_seen (the_view c.self.inside) c.self.invariant c.args.view c.args.address c.args.size c.requires.size c.requires.aligned all off i h) (small i h)
+    rw (← c.self.view_is, byte_seen (the_view c.self.inside) c.self.invariant.0 c.args.view c.args.address c.args.size c.requires.size c.requires.aligned all off i h) (small i h)

@@ -10,13 +10,13 @@ pub copy_to-requires-clause-inside : goal.copy_to-requires-clause-inside
 copy_to-requires-clause-inside c =
     let some : 1 ≤ length c.args.into.now = grind (arith, nat_tests) in
     let all = rw (← c.self.view_is) at c.requires in
-    data_inside (the_view c.self.inside) c.self.invariant c.args.address (length c.args.into.now) some all
+    data_inside (the_view c.self.inside) c.self.invariant.0 c.args.address (length c.args.into.now) some all
 
 pub copy_to-requires-clause-fits : goal.copy_to-requires-clause-fits
 copy_to-requires-clause-fits c =
     let some : 1 ≤ length c.args.into.now = grind (arith, nat_tests) in
     let all = rw (← c.self.view_is) at c.requires in
-    data_fits (the_view c.self.inside) c.self.invariant c.args.address (length c.args.into.now) some all
+    data_fits (the_view c.self.inside) c.self.invariant.0 c.args.address (length c.args.into.now) some all
 
 pub returns-then-not-is_empty : goal.returns-then-not-is_empty
 returns-then-not-is_empty c =
