@@ -1,5 +1,5 @@
 -- What is kept along a trace to tell uses is kept by each move.
-use Rattle.std.proofs.Common.{◌≡◌, ◌⊎◌, inl, inr, ℕ, suc, ◌+◌, ◌<◌, ◌≤◌, Bool, true, false, not, ◌&&◌, ◌||◌, ◌==◌, List, [], ◌∷◌, ◌++◌, Option, Some, None, length, drop, get_or, refl, ap, sym, ◌∙◌, subst, arith, nat_lt}
+use Rattle.std.proofs.Common.{◌≡◌, ◌⊎◌, inl, inr, ℕ, suc, ◌+◌, ◌<◌, ◌≤◌, Bool, true, false, not, ◌&&◌, ◌||◌, ◌==◌, List, [], ◌∷◌, ◌++◌, Option, Some, length, drop, get_or, refl, ap, sym, ◌∙◌, subst, arith, nat_lt}
 use Rattle.std.specs.Prelude.{◌≢◌, IsTrue, IfSome, Result, cond}
 use Rattle.std.specs.BTreeSet.{BTreeSet, contains, Updates}
 use Rattle.std.specs.Ordering.{nat_cmp, is_eq}
@@ -27,14 +27,13 @@ use Rattle.word_laws.specs.Shown.{own_core}
 use Rattle.hart_mem.specs.Held.{Held, space_of, data_byte}
 use Rattle.hart_mem.proofs.DataBytes.{data-is, memory-is, zero_off_data}
 use Rattle.hart_step.specs.Core.{Core}
-use Rattle.use_marks.specs.Along.{AreMarksOf, Completes, PassesMarks, numbers_of, numbers_from, numbers_then, numbers_by, completes_first_use, is_first_use, has_completed, has_restarted, own_instr, filled_by, tells_fill}
+use Rattle.use_marks.specs.Along.{AreMarksOf, Completes, numbers_of, numbers_from, numbers_then, numbers_by, completes_first_use, is_first_use, has_completed, has_restarted, own_instr, filled_by, tells_fill}
 use Rattle.use_marks.specs.Passing.{Sees, read_mark, touches_data, changed, ChangeFits}
 use Rattle.use_marks.specs.declared.passage.Passage.{Passage}
-use Rattle.use_marks.specs.declared.passage.MarkChange.TheVariants as to
 use Rattle.use_marks.specs.declared.read_mark.ReadMark.{ReadMark}
 use Rattle.use_marks.proofs.Completing.{completes-next}
 use Rattle.use_marks.proofs.Moved.{others-complete-nothing, same-count}
-use Rattle.use_marks.proofs.Along.{start-marks, quiet-marks, restart-marks, completed-marks, others-complete-none, notes-tell-fills, numbers-snoc}
+use Rattle.use_marks.proofs.Along.{PassesMarks, start-marks, quiet-marks, restart-marks, completed-marks, others-complete-none, notes-tell-fills, numbers-snoc}
 use Rattle.move_requests.proofs.Snoc.{moves_add_up}
 use Rattle.use_marks.specs.Marked.{marks_of}
 use Rattle.program_driver.specs.declared.uses.UseTrace.{UseTrace}
@@ -226,14 +225,6 @@ module _ (w : World) (r : Run) (s : State) (completes : Completes w r s) (core :
     change = change ∙ ap (λ o. marks_after w.image.layout (is_listed r.since.filled (suc r.since.own)) s o marks) (sym instr);
     fits = fits;
   }
-
--- where there is none, it does nothing
-pub does-none : (w : World) (r : Run) (s : State) (marks : Marks) → own_instr w r ≡ None → Does w r marks (record { used = false; change = to.None }) s
-does-none w r s marks none = record {
-  used = ap (λ o. is_use w.image.layout s o marks) (sym none);
-  change = ap (λ o. marks_after w.image.layout (is_listed r.since.filled (suc r.since.own)) s o marks) (sym none);
-  fits = tt;
-}
 
 -- no move but one of the own hart completes any
 pub other-completes-none : (w : World) (r : Run) (m : Move) (x : Answer) → m ≢ O → has_completed r (step w r (m, x)) ≡ false

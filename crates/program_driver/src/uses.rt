@@ -9,7 +9,7 @@ ghost use Rattle.run_model.specs.Run.{World, Run, Answer};
 ghost use Rattle.run_model.specs.Moves.{Moves, step, run};
 ghost use Rattle.run_model.specs.Restarts.{instr_action};
 ghost use Rattle.run_laws.specs.OwnLaws.{Accepted};
-ghost use Rattle.use_marks.specs.Along.{AreMarksOf, numbers_of, numbers_then, completes_first_use, has_restarted, filled_by, own_instr, tells_fill};
+ghost use Rattle.use_marks.specs.Along.{AreMarksOf, numbers_of, numbers_then, completes_first_use, has_restarted, filled_by, call_at, own_instr, tells_fill};
 ghost use Rattle.use_marks.specs.Marked.{marks_of};
 ghost use Rattle.run_model.specs.Marks.{no_marks};
 ghost use Rattle.use_marks.specs.Passing.{read_mark};
@@ -23,7 +23,7 @@ use rv_decode::Instr;
 use spec_base::{Move, NoMemory, Note, View};
 use std::alloc::Global;
 use std::collections::BTreeSet;
-use use_marks::{MarkChange, Marks, Passage, ReadMark};
+use use_marks::{Marks, Passage, ReadMark};
 
 /// What is kept along a trace to tell the first use of each run from a restart: the marks, whether no
 /// instruction was a use, and of each read that the shadow filled how many instructions come before it.
@@ -45,15 +45,25 @@ pub(crate) struct Ahead {
     next: Option<Passage>,
 }
 
-/// The instruction that the own hart would complete: the call in its registers while it is in the
-/// stub, else that at its pc.
+/// The call that a word of the stub completes: HCALL does, and no other word.
+fn call_at(word: Option<Instr>) -> Option<Instr>
+    ensures { result ≡ call_at word }
+{
+    match word {
+        Some(Instr::Hcall { .. }) => Some(Instr::Ecall),
+        _ => None,
+    }
+}
+
+/// The instruction that the own hart would complete: in the program that at its pc, in the stub the call
+/// of the word at its pc.
 fn own_instr(runner: &Runner) -> Option<Instr>
     ensures { (w : World) (r : Run) → Accepted w → Shows runner.now w r → result ≡ own_instr w r }
 {
     let own = runner.own();
     match own.view() {
         View::Program => runner.mem().instr_at(View::Program, own.pc()),
-        View::Stub => Some(Instr::Ecall),
+        View::Stub => call_at(runner.mem().instr_at(View::Stub, own.pc())),
         // The own hart has no other view.
         View::Plain | View::Shadow => None,
     }
@@ -123,24 +133,16 @@ impl UseTrace {
         }
     }
 
-    // What an instruction does to the marks, if there is one.
-    fn passage(&self, runner: &Runner, instr: &Option<Instr>) -> Passage
+    // What an instruction of the own hart does to the marks.
+    fn passage(&self, runner: &Runner, instr: &Instr) -> Passage
         ensures { (w : World) (r : Run) → Shows runner.now w r → ((n : ℕ) → contains nat_cmp self.now.filled n ≡ is_listed r.since.filled (suc n))
-            → instr.now ≡ own_instr w r → Stands w r (marks_of self.now.marks) result }
+            → own_instr w r ≡ Some instr.now → Stands w r (marks_of self.now.marks) result }
     {
-        match instr {
-            Some(instr) => {
-                let read = self.instr_read(runner, instr);
-                self.marks.look(instr, runner.own(), runner.mem(), read)
-            }
-            None => Passage {
-                used: false,
-                change: MarkChange::None,
-            },
-        }
+        let read = self.instr_read(runner, instr);
+        self.marks.look(instr, runner.own(), runner.mem(), read)
     }
 
-    // The same of the own hart's next instruction, if the run from a restart is followed.
+    // The same of its next one, if the run from a restart is followed and it completes any.
     fn next_passage(&self, runner: &Runner) -> Option<Passage>
         ensures { (w : World) (ms : Moves) (m : Move) → Accepted w → Shows runner.now w (run w ms) → KeepsUses w ms self.now → StandsIf w (run w ms) m (marks_of self.now.marks) result }
     {
@@ -150,7 +152,10 @@ impl UseTrace {
         if !runner.whole() {
             return None;
         }
-        Some(self.passage(runner, &own_instr(runner)))
+        match own_instr(runner) {
+            Some(instr) => Some(self.passage(runner, &instr)),
+            None => None,
+        }
     }
 
     // The same before a move: only one of the own hart completes an instruction.

@@ -6,19 +6,21 @@ use Rattle.std.proofs.lemmas.Bool.Decides.{nat_tests}
 use Rattle.spec_base.specs.Listed.{is_listed}
 use Rattle.spec_base.specs.declared.note.Move.{Move}
 use Rattle.rv_decode.specs.declared.instr.Instr.{Instr}
+use Rattle.program_model.specs.PlainRun.{State}
 use Rattle.run_model.specs.Run.{World, Run, Answer, opened_run}
 use Rattle.run_model.specs.OwnMoves.{stays_behind}
 use Rattle.run_model.specs.Moves.{Moves, step, run, run_from}
-use Rattle.run_model.specs.Marks.{Marks, no_marks, marks_after, is_use, before_use_with}
+use Rattle.run_model.specs.Marks.{Marks, no_marks, marks_after, is_use, before_use_with, IsFirstUse}
 use Rattle.own_laws.proofs.Reached.{false_true}
 use Rattle.use_marks.specs.Told.{IsTold, numbers_after}
-use Rattle.use_marks.specs.Along.{has_completed, has_restarted, numbers_by, numbers_then, numbers_from, numbers_of, is_first_use, completes_first_use, own_instr, AreMarksOf, PassesMarks, tells_fill, filled_by, StartHasMarks, QuietMoveKeepsMarks, RestartHasNoMarks, CompletedPassesMarks, OthersCompleteNone, NotesTellFills, FillsAreSettled, FirstUseIsSaid}
+use Rattle.use_marks.specs.Along.{has_completed, has_restarted, numbers_by, numbers_then, numbers_from, numbers_of, is_first_use, completes_first_use, own_instr, AreMarksOf, tells_fill, filled_by, Completes}
 use Rattle.use_marks.proofs.Told.{start_told, next_told, told_kept, first_use_told, after_earlier, after_here, after_later, listed_other}
 use Rattle.use_marks.proofs.Moved.{Rests, Counts, Begins, Moved, rests, counts, begins, same-count, more-count, step-moved}
 
 -- ---- the start, a move that completes nothing, and a restart
 
-pub start-marks : StartHasMarks
+-- at the start any marks do
+pub start-marks : (w : World) (m : Marks) (unused : Bool) → AreMarksOf w (opened_run w) [] m unused
 start-marks w m unused = record { told = λ some. absurd (omega (arith, some)) }
 
 -- what was told of a run holds of a later one with the same restart and the same count
@@ -27,7 +29,10 @@ told-there : (w : World) (r y : Run) (numbers : List ℕ) (marks : Marks) (unuse
 told-there w r y numbers marks unused origin own told =
     subst (λ (i : ℕ). IsTold w y i numbers marks unused) (sym own) (told_kept w r y r.since.own numbers marks unused origin told)
 
-pub quiet-marks : QuietMoveKeepsMarks
+-- a move that completes nothing leaves the marks
+pub quiet-marks :
+    (w : World) (r : Run) (m : Move × Answer) (numbers : List ℕ) (marks : Marks) (unused : Bool) → AreMarksOf w r numbers marks unused →
+    has_completed r (step w r m) ≡ false → has_restarted r (step w r m) ≡ false → AreMarksOf w (step w r m) numbers marks unused
 quiet-marks w r m numbers marks unused before quiet kept = by_move (step-moved w r m)
   where
     by_move : Moved r (step w r m) → AreMarksOf w (step w r m) numbers marks unused
@@ -39,7 +44,8 @@ quiet-marks w r m numbers marks unused before quiet kept = by_move (step-moved w
     by_move (counts c) = false_true (sym quiet ∙ more-count _ _ c.done)
     by_move (begins b) = false_true (sym kept ∙ more-count _ _ b.restarts)
 
-pub restart-marks : RestartHasNoMarks
+-- at a restart nothing is marked
+pub restart-marks : (w : World) (r : Run) (m : Move × Answer) → has_restarted r (step w r m) ≡ true → AreMarksOf w (step w r m) [] no_marks true
 restart-marks w r m begun = by_move (step-moved w r m)
   where
     by_move : Moved r (step w r m) → AreMarksOf w (step w r m) [] no_marks true
@@ -62,7 +68,16 @@ numbers-rested r y numbers n = ap₂ (λ (a b : Bool). numbers_by a b numbers r)
 numbers-begun : (r y : Run) (numbers : List ℕ) → Begins r y → numbers_then numbers r y ≡ []
 numbers-begun r y numbers b = ap (λ (a : Bool). numbers_by a (has_completed r y) numbers r) (more-count _ _ b.restarts)
 
-pub completed-marks : CompletedPassesMarks
+-- a completed instruction takes the marks on, and is the first use exactly where none was one before it and it is one by the marks
+pub record PassesMarks (w : World) (r next : Run) (numbers : List ℕ) (m : Marks) (unused : Bool) (s : State) : Type 0 where
+  pub marks :
+      AreMarksOf w next (numbers_then numbers r next)
+      (marks_after w.image.layout (is_listed r.since.filled (suc r.since.own)) s (own_instr w r) m) (unused && not (is_use w.image.layout s (own_instr w r) m))
+  pub first : completes_first_use w numbers r next ≡ (unused && is_use w.image.layout s (own_instr w r) m)
+
+pub completed-marks :
+    (w : World) (r : Run) (x : Move × Answer) (numbers : List ℕ) (m : Marks) (unused : Bool) (s : State) → AreMarksOf w r numbers m unused →
+    has_completed r (step w r x) ≡ true → 0 < r.restarts → IsTrue r.since.whole → Completes w r s → PassesMarks w r (step w r x) numbers m unused s
 completed-marks w r x numbers m unused s before completed some whole next = by_move (step-moved w r x)
   where
     y : Run
@@ -117,7 +132,11 @@ unsure-stays r y (rests n) kept unsure some whole = unsure-not r.restarts r.sinc
 unsure-stays r y (counts c) kept unsure some whole = unsure-not r.restarts r.since.whole unsure (subst (λ (k : ℕ). 0 < k) c.restarts some) (c.whole whole)
 unsure-stays r y (begins b) kept unsure some whole = false_true (sym kept ∙ more-count _ _ b.restarts)
 
-pub others-complete-none : OthersCompleteNone
+-- where nothing was restarted, or a put wasn't whole, no move completes a first use, and nothing is promised of the marks behind it
+pub others-complete-none :
+    (w : World) (r : Run) (x : Move × Answer) (numbers : List ℕ) (m : Marks) (unused : Bool) →
+    has_restarted r (step w r x) ≡ false → (nat_lt 0 r.restarts && r.since.whole) ≡ false →
+    (completes_first_use w numbers r (step w r x) ≡ false) × AreMarksOf w (step w r x) (numbers_then numbers r (step w r x)) m unused
 others-complete-none w r x numbers m unused kept unsure = (
   none (has_completed r (step w r x)) (nat_lt 0 r.restarts) r.since.whole (is_first_use numbers w r r.since.own) unsure,
   record { told = λ some whole. absurd (unsure-stays r (step w r x) (step-moved w r x) kept unsure some whole) },
@@ -131,7 +150,10 @@ others-complete-none w r x numbers m unused kept unsure = (
 
 -- ---- which reads the shadow has filled
 
-pub notes-tell-fills : NotesTellFills
+-- the notes tell each filled read: it has the number of the shadow's next instruction
+pub notes-tell-fills :
+    (w : World) (r : Run) (m : Move × Answer) → let next : Run = step w r m in
+    next.since.filled ≡ filled_by (has_restarted r next) (tells_fill next.notes) r
 notes-tell-fills w r m = by_move (step-moved w r m)
   where
     y : Run
@@ -233,12 +255,16 @@ settled-run w ms =
     settled-from w ms (opened_run w) []
     (record { behind = λ h. absurd (omega (arith, h)); none = λ h. absurd (omega (arith, h)); same = λ h. absurd (omega (arith, h)) })
 
-pub fills-are-settled : FillsAreSettled
+-- while the own hart isn't past the shadow, what was filled up to its count stays so
+pub fills-are-settled :
+    (w : World) (ms : Moves) → let r = run w ms in 0 < r.restarts → IsTrue r.since.ahead → (n : ℕ) → n ≤ r.since.own →
+    is_listed (numbers_of w ms) n ≡ is_listed r.since.filled n
 fills-are-settled w ms some ahead n few = (settled-run w ms).same some ahead n few
 
 -- ---- the first use that is told
 
-pub first-use-is-said : FirstUseIsSaid
+-- it is the first use that is told
+pub first-use-is-said : (numbers : List ℕ) (w : World) (r : Run) (i : ℕ) → (is_first_use numbers w r i ≡ true → IsFirstUse numbers w r i) × (IsFirstUse numbers w r i → is_first_use numbers w r i ≡ true)
 first-use-is-said numbers w r i = (
   λ h. let p : IsTrue (before_use_with numbers w r i) × (before_use_with numbers w r (suc i) ≡ false) = parts _ _ h in record { before = p.0; next = p.1 },
   λ first. rw (first.before, first.next) refl,

@@ -23,7 +23,7 @@ use Rattle.code_model.specs.Patch.{patched_instr}
 use Rattle.code_model.proofs.Alike.{fetched-map}
 use Rattle.run_model.specs.Run.{World, Run, RunEnd, Answer}
 use Rattle.run_model.specs.OwnMoves.{program_after, program_at, own_step}
-use Rattle.run_model.specs.Moves.{begun, step, step_unless, run}
+use Rattle.run_model.specs.Moves.{Moves, begun, step, step_unless, run}
 use Rattle.run_model.specs.Restarts.{instr_at, action_by, name_action, call_action, instr_action}
 use Rattle.run_laws.specs.OwnLaws.{Accepted}
 use Rattle.own_laws.proofs.Reached.{Reached, none_some, false_true, reached-fits}
@@ -33,7 +33,7 @@ use Rattle.own_laws.proofs.StubRows.{WordGoes, to_row, to_restarted, to_call, wo
 use Rattle.own_laws.proofs.OwnSide.{OwnSide, in_program, in_stub, at_call, waits, called, over, plan, AtCall, call-place, program_side, placed}
 use Rattle.own_laws.proofs.OwnLaws.{own_side}
 use Rattle.use_marks.specs.Passing.{touches_data}
-use Rattle.use_marks.specs.Along.{has_completed, own_instr_in, own_instr, Completes, CompletesNext}
+use Rattle.use_marks.specs.Along.{has_completed, own_instr_in, own_instr, Completes}
 use Rattle.use_marks.proofs.Moved.{same-count, others-complete-nothing}
 
 -- a count that is the same
@@ -250,6 +250,22 @@ module _ (w : World) (x : Answer) where
   own-completes accepted r z (called t q s k page h f y n is) = placed w CompletesIn r _ is (λ more some whole. none-more _ _ refl more)
   own-completes accepted r z (over s e h o) = none_some (sym z ∙ o.ended)
 
+  -- what isn't shown isn't completed
+  abbrev OnlyShown : Run → Type 0
+  OnlyShown r = own_instr w r ≡ None → (own_step w x r).own_done ≡ r.own_done
+
+  own-shows : Accepted w → (r : Run) → r.end ≡ None → OwnSide w (side_of r) → OnlyShown r
+  own-shows accepted r z (in_program t site gate s page h f is) =
+      placed w OnlyShown r _ is
+      (λ none. let here : Run = with_side r (program_side s site gate page t) in ap (λ (o : Option Instr). (program_at w here o).own_done) none)
+  own-shows accepted r z (in_stub t q k a b c page g row most is) =
+      placed w OnlyShown r _ is
+      (λ none. row-done q t k r _ (word_goes w x q t (reached-fits w accepted t q g.reached) (call-place w accepted t q g) r k a b c page row))
+  own-shows accepted r z (at_call t q page g is) = placed w OnlyShown r _ is (λ none. none_some (sym none))
+  own-shows accepted r z (waits t q page g is) = placed w OnlyShown r _ is (λ none. refl)
+  own-shows accepted r z (called t q s k page h f y n is) = placed w OnlyShown r _ is (λ none. refl)
+  own-shows accepted r z (over s e h o) = none_some (sym z ∙ o.ended)
+
 -- a move that has begun completes what the run would
 instr-begun : (v : View) (w : World) (r : Run) → own_instr_in v w (begun r) ≡ own_instr_in v w r
 instr-begun Program w r = refl
@@ -270,7 +286,10 @@ completes-begun w r s c =
       action = subst (λ (o : Option Instr). instr_action w.image.layout s o ≡ instr_action w.image.layout r.own o) same c.action;
     }
 
-pub completes-next : CompletesNext
+-- an instruction that is completed since a restart, while each put was whole, is the next one from there
+pub completes-next :
+    (w : World) → Accepted w → (ms : Moves) (m : Move × Answer) → let r = run w ms in let next : Run = step w r m in
+    has_completed r next ≡ true → 0 < r.restarts → IsTrue r.since.whole → (s : State) × Completes w r s
 completes-next w a ms m = by_move (others-complete-nothing w r m.0 m.1)
   where
     r : Run
@@ -285,3 +304,18 @@ completes-next w a ms m = by_move (others-complete-nothing w r m.0 m.1)
     by_move : (m.0 ≡ O) ⊎ ((step w r m).own_done ≡ r.own_done) → has_completed r (step w r m) ≡ true → 0 < r.restarts → IsTrue r.since.whole → (s : State) × Completes w r s
     by_move (inl own) more some whole = subst (λ (k : Move). has_completed r (step w r (k, m.1)) ≡ true → 0 < r.restarts → IsTrue r.since.whole → (s : State) × Completes w r s) (sym own) (by_end r.end refl) more some whole
     by_move (inr same) more some whole = none-more _ _ same more
+
+-- where the own hart shows no instruction, none is completed
+pub completes-only-shown : (w : World) → Accepted w → (ms : Moves) (m : Move × Answer) → let r = run w ms in own_instr w r ≡ None → has_completed r (step w r m) ≡ false
+completes-only-shown w a ms m none = by_move (others-complete-nothing w r m.0 m.1)
+  where
+    r : Run
+    r = run w ms
+
+    by_end : (e : Option RunEnd) → r.end ≡ e → (step_unless e w r (O, m.1)).own_done ≡ r.own_done
+    by_end (Some e) f = refl
+    by_end None f = own-shows w m.1 a (begun r) f (own_side w a ms) (instr-begun r.view w r ∙ none)
+
+    by_move : (m.0 ≡ O) ⊎ ((step w r m).own_done ≡ r.own_done) → has_completed r (step w r m) ≡ false
+    by_move (inl own) = same-count _ _ (subst (λ (k : Move). (step w r (k, m.1)).own_done ≡ r.own_done) (sym own) (by_end r.end refl))
+    by_move (inr same) = same-count _ _ same

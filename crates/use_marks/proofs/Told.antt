@@ -1,5 +1,5 @@
 -- Marks and uses along the run from a restart rest on the restart, and on the numbers of filled reads so far.
-use Rattle.std.proofs.Common.{◌≡◌, ℕ, zero, suc, ◌<◌, ◌≤◌, Bool, true, false, not, ◌&&◌, ◌||◌, List, [], ◌∷◌, ◌++◌, Option, refl, sym, ◌∙◌, ap, ap₂, arith, ◌==◌}
+use Rattle.std.proofs.Common.{◌≡◌, ℕ, zero, suc, ◌<◌, ◌≤◌, Bool, true, false, not, ◌&&◌, ◌||◌, List, [], ◌∷◌, ◌++◌, Option, Some, refl, sym, ◌∙◌, ap, ap₂, arith, ◌==◌}
 use Rattle.std.specs.Option.{option_and_then}
 use Rattle.std.proofs.lemmas.Bool.Decides.{nat_tests}
 use Rattle.std.proofs.lemmas.List.Folds.{list_any-append}
@@ -7,8 +7,8 @@ use Rattle.spec_base.specs.Listed.{is_listed}
 use Rattle.program_model.specs.PlainRun.{State, state_after, all_taken}
 use Rattle.run_model.specs.Run.{World, Run}
 use Rattle.run_model.specs.Restarts.{from_restart, instr_at}
-use Rattle.run_model.specs.Marks.{is_use, Marks, marks_after, marks_after_some, marks_with, some_use, before_use_with}
-use Rattle.use_marks.specs.Told.{numbers_after, StartIsTold, NextIsTold, ToldIsKept, FirstUseIsTold}
+use Rattle.run_model.specs.Marks.{is_use, Marks, no_marks, marks_after, marks_after_some, marks_with, some_use, before_use_with}
+use Rattle.use_marks.specs.Told.{IsTold, numbers_after}
 
 -- ---- numbers
 
@@ -70,11 +70,15 @@ module _ (w : World) (r y : Run) (e : y.since.origin ≡ r.since.origin) (number
 
 -- ---- what is told
 
-pub start_told : StartIsTold
+-- nothing is marked at the restart
+pub start_told : (w : World) (r : Run) → IsTold w r 0 [] no_marks true
 unfolding marks_with before_use_with
 start_told w r = record { up_to = λ n h. refl; marks = refl; uses = refl }
 
-pub next_told : NextIsTold
+-- an instruction more, which was filled or not
+pub next_told :
+    (w : World) (r : Run) (i : ℕ) (numbers : List ℕ) (m : Marks) (unused filled : Bool) (s : State) → IsTold w r i numbers m unused → from_restart w r i ≡ Some s →
+    IsTold w r (suc i) (numbers_after numbers i filled) (marks_after w.image.layout filled s (instr_at w.image s) m) (unused && not (is_use w.image.layout s (instr_at w.image s) m))
 unfolding marks_with before_use_with
 next_told w r i numbers m unused filled s told at =
     let here = after_here numbers i filled (told.up_to (suc i) (omega arith)) in
@@ -87,14 +91,19 @@ next_told w r i numbers m unused filled s told at =
       uses = sym (ap₂ (λ (b c : Bool). b && not c) unused_before (ap₂ (λ (o : Option State) (k : Marks). some_use w.image o k) at before));
     }
 
-pub told_kept : ToldIsKept
+-- what was told of a run holds of each later one with the same restart, whatever the shadow has filled since
+pub told_kept :
+    (w : World) (r y : Run) (i : ℕ) (numbers : List ℕ) (m : Marks) (unused : Bool) → y.since.origin ≡ r.since.origin → IsTold w r i numbers m unused → IsTold w y i numbers m unused
 told_kept w r y i numbers m unused e told = record {
   up_to = told.up_to;
   marks = told.marks ∙ sym (marks_same w r y e numbers numbers i (λ n h. refl));
   uses = told.uses ∙ sym (uses_same w r y e numbers numbers i (λ n h. refl));
 }
 
-pub first_use_told : FirstUseIsTold
+-- the next instruction is the first use exactly where no earlier one was a use and it is one by the marks before it
+pub first_use_told :
+    (w : World) (r : Run) (i : ℕ) (numbers : List ℕ) (m : Marks) (unused : Bool) (s : State) → IsTold w r i numbers m unused → from_restart w r i ≡ Some s →
+    (before_use_with numbers w r i && not (before_use_with numbers w r (suc i))) ≡ (unused && is_use w.image.layout s (instr_at w.image s) m)
 unfolding before_use_with
 first_use_told w r i numbers m unused s told at =
     ap₂ (λ (b c : Bool). b && not (b && not c)) (sym told.uses) (ap₂ (λ (o : Option State) (k : Marks). some_use w.image o k) at (sym told.marks))

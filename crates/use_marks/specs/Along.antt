@@ -1,22 +1,22 @@
 -- What is told of uses along a run, move by move: which reads were filled when the own hart completed them, its marks, and the first use (this project's own).
-use Rattle.std.specs.Prelude.{◌≡◌, ◌≤◌, ◌<◌, ◌+◌, ℕ, suc, nat_lt, Bool, true, false, not, ◌&&◌, List, [], ◌∷◌, ◌++◌, Option, Some, None, IsTrue}
+use Rattle.std.specs.Prelude.{◌≡◌, ◌<◌, ◌+◌, ℕ, suc, nat_lt, Bool, true, false, not, ◌&&◌, List, [], ◌∷◌, ◌++◌, Option, Some, None, IsTrue}
 use Rattle.spec_base.specs.Listed.{is_listed}
+use Rattle.spec_base.specs.Layout.{stub_start}
 use Rattle.spec_base.specs.declared.machine.View.{View}
 use Rattle.spec_base.specs.declared.machine.View.TheVariants.{Plain, Program, Stub, Shadow}
 use Rattle.spec_base.specs.declared.note.Note.{Note}
 use Rattle.spec_base.specs.declared.note.Note.TheVariants.{Fill}
 use Rattle.rv_decode.specs.declared.instr.Instr.{Instr}
-use Rattle.rv_decode.specs.declared.instr.Instr.TheVariants.{Ecall}
+use Rattle.rv_decode.specs.declared.instr.Instr.TheVariants.{Ecall, Hcall}
 use Rattle.rv_model.specs.Effect.{fetched}
 use Rattle.rv_model.specs.Rights.{is_data}
 use Rattle.rv_model.specs.Registers.{reg}
 use Rattle.program_model.specs.PlainRun.{State}
-use Rattle.run_model.specs.Run.{World, Run, Answer, rewritten_text, opened_run}
-use Rattle.run_model.specs.Moves.{Moves, step, run}
+use Rattle.code_model.specs.Stub.{stub}
+use Rattle.run_model.specs.Run.{World, Run, rewritten_text, opened_run}
+use Rattle.run_model.specs.Moves.{Moves, step}
 use Rattle.run_model.specs.Restarts.{from_restart, instr_at, instr_action}
-use Rattle.run_model.specs.Marks.{Marks, no_marks, marks_after, is_use, before_use_with, IsFirstUse}
-use Rattle.spec_base.specs.declared.note.Move.{Move}
-use Rattle.run_laws.specs.OwnLaws.{Accepted}
+use Rattle.run_model.specs.Marks.{Marks, before_use_with}
 use Rattle.use_marks.specs.Passing.{touches_data}
 use Rattle.use_marks.specs.Told.{IsTold, numbers_after}
 
@@ -62,10 +62,15 @@ completes_first_use w numbers r next = has_completed r next && (nat_lt 0 r.resta
 
 -- ---- which instruction the own hart completes
 
--- the call in its registers, while it is in the stub; else that at its pc
+-- HCALL completes the call in the hart's registers, and no other word of the stub completes any
+abbrev pub call_at : Option Instr → Option Instr
+call_at (Some (Hcall unhinted)) = Some Ecall
+call_at _ = None
+
+-- in the program the one at its pc, in the stub the call of the word at its pc
 abbrev pub own_instr_in : View → World → Run → Option Instr
 own_instr_in Program w r = fetched (rewritten_text w) w.image.layout.text_start r.own.pc
-own_instr_in Stub w r = Some Ecall
+own_instr_in Stub w r = call_at (fetched stub stub_start r.own.pc)
 own_instr_in Plain w r = None
 own_instr_in Shadow w r = None
 
@@ -88,45 +93,6 @@ pub record Completes (w : World) (r : Run) (s : State) : Type 0 where
 pub record AreMarksOf (w : World) (r : Run) (numbers : List ℕ) (m : Marks) (unused : Bool) : Type 0 where
   pub told : 0 < r.restarts → IsTrue r.since.whole → IsTold w r r.since.own numbers m unused
 
--- at the start any do
-abbrev pub StartHasMarks : Type 0
-StartHasMarks = (w : World) (m : Marks) (unused : Bool) → AreMarksOf w (opened_run w) [] m unused
-
--- a move that completes nothing leaves them
-abbrev pub QuietMoveKeepsMarks : Type 0
-QuietMoveKeepsMarks =
-    (w : World) (r : Run) (m : Move × Answer) (numbers : List ℕ) (marks : Marks) (unused : Bool) → AreMarksOf w r numbers marks unused →
-    has_completed r (step w r m) ≡ false → has_restarted r (step w r m) ≡ false → AreMarksOf w (step w r m) numbers marks unused
-
--- at a restart nothing is marked
-abbrev pub RestartHasNoMarks : Type 0
-RestartHasNoMarks = (w : World) (r : Run) (m : Move × Answer) → has_restarted r (step w r m) ≡ true → AreMarksOf w (step w r m) [] no_marks true
-
--- an instruction that is completed since a restart, while each put was whole, is the next one from there
-abbrev pub CompletesNext : Type 0
-CompletesNext =
-    (w : World) → Accepted w → (ms : Moves) (m : Move × Answer) → let r = run w ms in let next : Run = step w r m in
-    has_completed r next ≡ true → 0 < r.restarts → IsTrue r.since.whole → (s : State) × Completes w r s
-
--- it takes the marks on, and is the first use exactly where none was one before it and it is one by the marks
-pub record PassesMarks (w : World) (r next : Run) (numbers : List ℕ) (m : Marks) (unused : Bool) (s : State) : Type 0 where
-  pub marks :
-      AreMarksOf w next (numbers_then numbers r next)
-      (marks_after w.image.layout (is_listed r.since.filled (suc r.since.own)) s (own_instr w r) m) (unused && not (is_use w.image.layout s (own_instr w r) m))
-  pub first : completes_first_use w numbers r next ≡ (unused && is_use w.image.layout s (own_instr w r) m)
-
-abbrev pub CompletedPassesMarks : Type 0
-CompletedPassesMarks =
-    (w : World) (r : Run) (x : Move × Answer) (numbers : List ℕ) (m : Marks) (unused : Bool) (s : State) → AreMarksOf w r numbers m unused →
-    has_completed r (step w r x) ≡ true → 0 < r.restarts → IsTrue r.since.whole → Completes w r s → PassesMarks w r (step w r x) numbers m unused s
-
--- where nothing was restarted, or a put wasn't whole, no move completes a first use, and nothing is promised of the marks behind it
-abbrev pub OthersCompleteNone : Type 0
-OthersCompleteNone =
-    (w : World) (r : Run) (x : Move × Answer) (numbers : List ℕ) (m : Marks) (unused : Bool) →
-    has_restarted r (step w r x) ≡ false → (nat_lt 0 r.restarts && r.since.whole) ≡ false →
-    (completes_first_use w numbers r (step w r x) ≡ false) × AreMarksOf w (step w r x) (numbers_then numbers r (step w r x)) m unused
-
 -- ---- which reads the shadow has filled
 
 -- whether a move told a fill
@@ -139,21 +105,3 @@ abbrev pub filled_by : (restarted : Bool) → (filled : Bool) → Run → List �
 filled_by true filled r = []
 filled_by false true r = r.since.filled ++ (r.since.shadow + 1) ∷ []
 filled_by false false r = r.since.filled
-
--- the notes tell each filled read: it has the number of the shadow's next instruction
-abbrev pub NotesTellFills : Type 0
-NotesTellFills =
-    (w : World) (r : Run) (m : Move × Answer) → let next : Run = step w r m in
-    next.since.filled ≡ filled_by (has_restarted r next) (tells_fill next.notes) r
-
--- ---- the trace's first use is that of the laws of hints
-
--- while the own hart isn't past the shadow, what was filled up to its count stays so
-abbrev pub FillsAreSettled : Type 0
-FillsAreSettled =
-    (w : World) (ms : Moves) → let r = run w ms in 0 < r.restarts → IsTrue r.since.ahead → (n : ℕ) → n ≤ r.since.own →
-    is_listed (numbers_of w ms) n ≡ is_listed r.since.filled n
-
--- it is the first use that is told
-abbrev pub FirstUseIsSaid : Type 0
-FirstUseIsSaid = (numbers : List ℕ) (w : World) (r : Run) (i : ℕ) → (is_first_use numbers w r i ≡ true → IsFirstUse numbers w r i) × (IsFirstUse numbers w r i → is_first_use numbers w r i ≡ true)

@@ -1,11 +1,10 @@
-use Rattle.std.proofs.Common.{◌≡◌, ◌∙◌, ◌<◌, Some, None, true, sym, subst}
+use Rattle.std.proofs.Common.{◌≡◌, ◌∙◌, Some, None, sym, subst}
 use Rattle.spec_base.specs.declared.note.Move.{Move}
 use Rattle.run_model.specs.Run.{World, Run}
 use Rattle.run_model.specs.Moves.{run, step}
 use Rattle.run_model.specs.Marks.{Marks}
 use Rattle.use_marks.specs.Marked.{marks_of}
-use Rattle.use_marks.specs.Along.{AreMarksOf, numbers_of, numbers_then, has_completed}
-use Rattle.use_marks.specs.declared.passage.Passage.{Passage}
+use Rattle.use_marks.specs.Along.{AreMarksOf, numbers_of, numbers_then}
 use Rattle.program_driver.specs.declared.uses.Ahead.{Ahead}
 use Rattle.program_driver.specs.Uses.{IsAhead, StandsIf}
 use Rattle.program_driver.proofs.Using.{not-more, more, quiet-first, quiet-kept, unknown-first, unknown-kept, passed-first, passed-kept}

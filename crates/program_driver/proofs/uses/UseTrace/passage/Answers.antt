@@ -1,15 +1,14 @@
-use Rattle.std.proofs.Common.{◌∙◌, Bool, sym, suc}
+use Rattle.std.proofs.Common.{Bool, suc}
 use Rattle.spec_base.specs.Listed.{is_listed}
 use Rattle.hart_step.specs.Core.{core_of}
 use Rattle.use_marks.specs.Marked.{marks_of}
-use Rattle.program_driver.proofs.Using.{sees, touches, reads, does-some, does-none}
+use Rattle.program_driver.proofs.Using.{sees, touches, reads, does-some}
 use Rattle.program_driver.proofs.uses.UseTrace.passage.Goals as goal
 
-pub returns-in-Some : goal.returns-in-Some
-returns-in-Some c w r shows keeps is s done =
+pub returns : goal.returns
+returns c w r shows keeps instr s done =
     let filled : Bool = is_listed r.since.filled (suc r.since.own) in
-    let instr = sym is ∙ c.in-Some.is in
-    let i = c.in-Some.instr in
+    let i = c.args.instr.now in
     let core = core_of c.own.result.now in
     let mem = c.mem.result.now in
     let hart = c.own.ensures w r shows in
@@ -20,6 +19,3 @@ returns-in-Some c w r shows keeps is s done =
     (c.look.ensures.used w.image.layout s there)
     (c.look.ensures.change w.image.layout filled s there read)
     (c.look.ensures.fits w.image.layout filled s (touches w r s done core mem hart space i instr) read)
-
-pub returns-in-None : goal.returns-in-None
-returns-in-None c w r shows keeps is s done = does-none w r s (marks_of c.args.self.now.marks) (sym is ∙ c.in-None.is)
