@@ -1,25 +1,18 @@
 //! The commands over a store and two sinks in memory.
 
+mod commands;
+mod hostile;
+mod images;
 mod run;
+mod uses;
 
+use commands::{command, plain};
 use elf_image::Refusal;
-use spec_base::{Name, Trap};
-use spechint_commands::{Status, spechint};
+use images::{EXITS, image, reads};
+use spec_base::Trap;
+use spechint_commands::Status;
 use std::alloc::Global;
 use std::test::Fail;
-use world_io::{MemSink, MemStore};
-
-// The headers of an image of one segment, which is its text, up to the segment's sizes; and behind.
-const FRONT: [u8; 96] = [
-    0x7F, 0x45, 0x4C, 0x46, 2, 1, 1, 0, 0, 0, 0, 0, 0, 0, 0, 0, // ident
-    2, 0, 243, 0, 1, 0, 0, 0, 0x78, 0, 1, 0, 0, 0, 0, 0, // type, machine, version, entry
-    64, 0, 0, 0, 0, 0, 0, 0, 0, 0, 0, 0, 0, 0, 0, 0, // phoff, shoff
-    0, 0, 0, 0, 64, 0, 56, 0, 1, 0, 0, 0, 0, 0, 0, 0, // flags and the rest
-    1, 0, 0, 0, 5, 0, 0, 0, 120, 0, 0, 0, 0, 0, 0, 0, // type, flags, offset
-    0x78, 0, 1, 0, 0, 0, 0, 0, 0x78, 0, 1, 0, 0, 0, 0, 0, // addresses
-];
-
-const BACK: [u8; 8] = [0, 0x10, 0, 0, 0, 0, 0, 0];
 
 // Puts the name that it is called by, and exits with 0.
 const PUTS_ITS_NAME: [u32; 8] = [
@@ -32,85 +25,10 @@ const PUTS_ITS_NAME: [u32; 8] = [
     0x05D0_0893,
     0x0000_0073,
 ];
-// Exits with 7.
-const EXITS: [u32; 3] = [0x0070_0513, 0x05D0_0893, 0x0000_0073];
 // One ADDI, and then nothing.
 const ENDS: [u32; 1] = [0x0070_0513];
-// Reads 64 bytes of each of the 40 blocks of the file `data`, and then puts `done`.
-const READS: [u32; 31] = [
-    0x0020_0437,
-    0x0004_0593,
-    0x0000_0613,
-    0x0380_0893,
-    0x0000_0073,
-    0x0005_0493,
-    0x0000_0913,
-    0x0280_0993,
-    0x0000_1A37,
-    0x0004_8513,
-    0x0009_0593,
-    0x0000_0613,
-    0x03E0_0893,
-    0x0000_0073,
-    0x0004_8513,
-    0x0020_15B7,
-    0x0400_0613,
-    0x03F0_0893,
-    0x0000_0073,
-    0x1134_2023,
-    0x0149_0933,
-    0xFFF9_8993,
-    0xFC09_96E3,
-    0x0010_0513,
-    0x0084_0593,
-    0x0050_0613,
-    0x0400_0893,
-    0x0000_0073,
-    0x0000_0513,
-    0x05D0_0893,
-    0x0000_0073,
-];
 // No instruction.
 const ILLEGAL: [u32; 1] = [0];
-
-fn image(alloc: Global, words: &[u32]) -> Result<Vec<u8>, Fail> {
-    let mut bytes = FRONT.to_vec(alloc)?;
-    let size = words.len() as u64 * 4;
-    bytes.extend_from_slice(&size.to_le_bytes())?;
-    bytes.extend_from_slice(&size.to_le_bytes())?;
-    bytes.extend_from_slice(&BACK)?;
-    for word in words {
-        bytes.extend_from_slice(&word.to_le_bytes())?;
-    }
-    Ok(bytes)
-}
-
-// One entry of the header table: flags, offset, address, and both sizes.
-fn push_entry(bytes: &mut Vec<u8>, flags: u32, fields: [u64; 4]) -> Result<(), Fail> {
-    let [offset, address, length, size] = fields;
-    bytes.extend_from_slice(&1u32.to_le_bytes())?;
-    bytes.extend_from_slice(&flags.to_le_bytes())?;
-    for field in [offset, address, address, length, size, 0x1000] {
-        bytes.extend_from_slice(&field.to_le_bytes())?;
-    }
-    Ok(())
-}
-
-// An image of a text at 0x100B0, and of 0x3000 bytes at 0x200000 that begin with the names that
-// READS wants.
-fn image_with_data(alloc: Global, words: &[u32]) -> Result<Vec<u8>, Fail> {
-    let size = words.len() as u64 * 4;
-    let mut bytes = FRONT[..64].to_vec(alloc)?;
-    bytes[24] = 0xB0;
-    bytes[56] = 2;
-    push_entry(&mut bytes, 5, [176, 0x1_00B0, size, size])?;
-    push_entry(&mut bytes, 6, [176 + size, 0x20_0000, 16, 0x3000])?;
-    for word in words {
-        bytes.extend_from_slice(&word.to_le_bytes())?;
-    }
-    bytes.extend_from_slice(b"data\0\0\0\0done\n\0\0\0")?;
-    Ok(bytes)
-}
 
 // A program that makes the call of this number with one more register set, and exits with the answer.
 fn call(alloc: Global, number: u32, set: u32) -> Result<Vec<u8>, Fail> {
@@ -124,49 +42,6 @@ fn call(alloc: Global, number: u32, set: u32) -> Result<Vec<u8>, Fail> {
             0x0000_0073,
         ],
     )
-}
-
-#[derive(Drop)]
-struct Told {
-    status: Status,
-    out: Vec<u8>,
-    err: Vec<u8>,
-}
-
-// What these words come to over a store with the files `w1` and `data`, whose calls in `fails` fail,
-// and an output whose puts in `stops` fail. A file of 4,096 bytes isn't put into the store.
-fn command(
-    alloc: Global,
-    words: &[&str],
-    file: &[u8],
-    data: &[u8],
-    fails: &[u64],
-    stops: &[u64],
-) -> Result<Told, Fail> {
-    let mut store = MemStore::new(alloc, fails.to_vec(alloc)?);
-    if file.len() < 1_000_000 && file.len() != 4096 {
-        store.add(Name::new(b"w1").ok_or("name")?, file)?;
-    }
-    if data.len() < 1_000_000 {
-        store.add(Name::new(b"data").ok_or("name")?, data)?;
-    }
-    let mut out = MemSink::new(alloc, 20_000, stops.to_vec(alloc)?, Vec::new(alloc))?;
-    let mut err = MemSink::new(alloc, 200, Vec::new(alloc), Vec::new(alloc))?;
-    let mut given = Vec::new(alloc);
-    for word in words {
-        given.push(String::from_str(alloc, word)?)?;
-    }
-    let status = spechint(alloc, &given, &mut store, &mut out, &mut err);
-    Ok(Told {
-        status,
-        out: out.bytes().to_vec(alloc)?,
-        err: err.bytes().to_vec(alloc)?,
-    })
-}
-
-// What `plain w1` comes to.
-fn plain(alloc: Global, file: &[u8], fails: &[u64], stops: &[u64]) -> Result<Told, Fail> {
-    command(alloc, &["plain", "w1"], file, b"", fails, stops)
 }
 
 #[test]
@@ -197,17 +72,17 @@ fn a_status_has_its_text(rt: HostRuntime) -> Result<(), Fail> {
         told.err.as_slice(),
         b"spechint: trap Illegal at 0x10078\n".as_slice()
     );
-    let told = plain(alloc, &FRONT[..40], &[], &[])?;
+    let told = plain(alloc, b"\x7FELF", &[], &[])?;
     assert_eq!(rt; told.status, Status::Refused(Refusal::Short));
     assert_eq!(rt;
         told.err.as_slice(),
         b"spechint: w1: refused: E2 Short\n".as_slice()
     );
-    let told = plain(alloc, &[0; 4096], &[], &[])?;
+    let told = command(alloc, &["plain", "w2"], b"", b"", &[], &[])?;
     assert_eq!(rt; told.status, Status::Absent);
     assert_eq!(rt;
         told.err.as_slice(),
-        b"spechint: cannot find w1\n".as_slice()
+        b"spechint: cannot find w2\n".as_slice()
     );
     Ok(())
 }
@@ -246,27 +121,18 @@ fn each_status_has_its_code(rt: HostRuntime) -> Result<(), Fail> {
 #[test]
 fn words_that_are_no_command_line_are_usage(rt: HostRuntime) -> Result<(), Fail> {
     let alloc = rt.alloc();
-    let none = [0; 4096];
-    let told = command(alloc, &["plain", "--report", "w1"], &none, b"", &[], &[])?;
+    let told = command(alloc, &["plain", "--report", "w1"], b"", b"", &[], &[])?;
     assert_eq!(rt; told.status, Status::Usage);
     assert_eq!(rt;
         told.err.as_slice(),
         b"spechint: usage: spechint plain|rewrite|run|trace [OPTIONS] IMAGE [ARGS], or spechint demo N\n".as_slice()
     );
     assert_eq!(rt;
-        command(alloc, &[], &none, b"", &[], &[])?.status,
+        command(alloc, &[], b"", b"", &[], &[])?.status,
         Status::Usage
     );
     assert_eq!(rt;
-        command(
-            alloc,
-            &["plain", "--turns", "0", "w1"],
-            &none,
-            b"",
-            &[],
-            &[]
-        )?
-        .status,
+        command(alloc, &["plain", "--turns", "0", "w1"], b"", b"", &[], &[])?.status,
         Status::Usage
     );
     Ok(())
@@ -294,7 +160,7 @@ fn each_call_has_its_answer(rt: HostRuntime) -> Result<(), Fail> {
 #[test]
 fn a_program_reads_its_file(rt: HostRuntime) -> Result<(), Fail> {
     let alloc = rt.alloc();
-    let file = image_with_data(alloc, &READS)?;
+    let file = reads(alloc)?;
     let data = vec![in alloc; 7u8; 163_840]?;
     let told = command(alloc, &["plain", "w1"], &file, &data, &[], &[])?;
     assert_eq!(rt; told.status, Status::Exited(0));

@@ -1,82 +1,38 @@
-//! The commands `run` and `trace` over a store and two sinks in memory.
+//! The commands `run` and `trace` over a store and two outputs in memory.
 
-use super::{EXITS, READS, command, image, image_with_data};
-use elf_image::Refusal;
-use spechint_commands::Status;
+use super::commands::{Told, command, is_told};
+use super::images::{EXITS, image, image_with_data, reads};
 use std::alloc::Global;
 use std::test::Fail;
 
-// Whether a command with these words comes to a status and puts these bytes on both sinks. The store has
-// the file `w1`, and `data` of 40 blocks, and its calls in `fails` fail.
-fn comes_to(
-    alloc: Global,
-    words: &[&str],
-    file: &[u8],
-    fails: &[u64],
-    status: Status,
-    out: &[u8],
-    err: &[u8],
-) -> Result<bool, Fail> {
+// What a command line comes to over a program that reads, and `data` of 40 blocks.
+fn over_reads(alloc: Global, words: &[&str], fails: &[u64]) -> Result<Told, Fail> {
     let data = vec![in alloc; 7u8; 163_840]?;
-    let told = command(alloc, words, file, &data, fails, &[])?;
-    Ok(told.status == status && told.out.as_slice() == out && told.err.as_slice() == err)
+    command(alloc, words, &reads(alloc)?, &data, fails, &[])
 }
 
 #[test]
 fn a_run_hints_its_reads(rt: HostRuntime) -> Result<(), Fail> {
-    let alloc = rt.alloc();
-    let file = image_with_data(alloc, &READS)?;
-    assert!(rt;
-        comes_to(
-            alloc,
-            &["run", "--report", "w1"],
-            &file,
-            &[],
-            Status::Exited(0),
-            b"done\n",
-            b"spechint: instructions 577 stalls 1 restarts 1 matched 39 hints 39 regions 1 shadow 558 parked Exit\n",
-        )?
-    );
-    assert!(rt;
-        comes_to(
-            alloc,
-            &["run", "--pattern", "O1D1", "w1"],
-            &file,
-            &[5],
-            Status::StoreFault,
-            b"",
-            b"spechint: read fault\n",
-        )?
-    );
+    let told = over_reads(rt.alloc(), &["run", "--report", "w1"], &[])?;
+    let report =
+        b"spechint: instructions 577 stalls 1 restarts 1 matched 39 hints 39 regions 1 shadow 558 parked Exit\n";
+    assert!(rt; is_told(&told, 0, b"done\n", report));
     Ok(())
 }
 
 #[test]
 fn all_turns_of_the_shadow_complete_nothing(rt: HostRuntime) -> Result<(), Fail> {
     let alloc = rt.alloc();
+    let words = ["run", "--pattern", "S1", "--turns", "1000", "w1"];
+    let told = command(alloc, &words, &image(alloc, &EXITS)?, b"", &[], &[])?;
     assert!(rt;
-        comes_to(
-            alloc,
-            &["run", "--pattern", "S1", "--turns", "1000", "w1"],
-            &image(alloc, &EXITS)?,
-            &[],
-            Status::TurnsOver(0),
+        is_told(
+            &told,
+            124,
             b"",
-            b"spechint: turns over after 0 instructions\n",
-        )?
+            b"spechint: turns over after 0 instructions\n"
+        )
     );
-    Ok(())
-}
-
-#[test]
-fn a_trace_tells_what_moves_tell(rt: HostRuntime) -> Result<(), Fail> {
-    let alloc = rt.alloc();
-    let file = image(alloc, &EXITS)?;
-    let words = ["trace", "w1"];
-    let line = b"3 0 exit 7\n";
-    assert!(rt; comes_to(alloc, &words, &file, &[], Status::Exited(7), line, b"")?);
-    let told = command(alloc, &words, &file, b"", &[], &[1])?;
-    assert_eq!(rt; told.status, Status::SinkFault);
     Ok(())
 }
 
@@ -103,54 +59,47 @@ fn loading(alloc: Global, load: u32) -> Result<Vec<u8>, Fail> {
     )
 }
 
+// What a command line comes to over a program that loads by this word, and `data` of two blocks.
+fn over_load(alloc: Global, words: &[&str], load: u32) -> Result<Told, Fail> {
+    let data = vec![in alloc; 7u8; 5_000]?;
+    command(alloc, words, &loading(alloc, load)?, &data, &[], &[])
+}
+
 #[test]
 fn a_trace_tells_the_first_use(rt: HostRuntime) -> Result<(), Fail> {
     let alloc = rt.alloc();
-    let data = vec![in alloc; 7u8; 5_000]?;
     let words = ["trace", "--uses", "w1"];
     // lbu x10,0(x11): the exit's code is the byte.
-    let told = command(
-        alloc,
-        &words,
-        &loading(alloc, 0x0005_C503)?,
-        &data,
-        &[],
-        &[],
-    )?;
-    assert_eq!(rt; told.status, Status::Exited(7));
+    let told = over_load(alloc, &words, 0x0005_C503)?;
+    assert_eq!(rt; told.status.code(), 7);
     assert!(rt;
         told.out
             .as_slice()
             .ends_with(b"\n14 3 use 4\n14 3 exit 7\n")
     );
     // lbu x5,0(x11): nothing uses it.
-    let file = loading(alloc, 0x0005_C283)?;
-    let with = command(alloc, &words, &file, &data, &[], &[])?;
-    let without = command(alloc, &["trace", "w1"], &file, &data, &[], &[])?;
+    let with = over_load(alloc, &words, 0x0005_C283)?;
+    let without = over_load(alloc, &["trace", "w1"], 0x0005_C283)?;
     assert!(rt; with.out.as_slice() == without.out.as_slice());
     Ok(())
+}
+
+// The rewritten file of a program that exits.
+fn rewritten(alloc: Global) -> Result<Vec<u8>, Fail> {
+    let file = image(alloc, &EXITS)?;
+    Ok(command(alloc, &["rewrite", "w1"], &file, b"", &[], &[])?.out)
 }
 
 #[test]
 fn a_rewritten_file_runs_as_it_is(rt: HostRuntime) -> Result<(), Fail> {
     let alloc = rt.alloc();
-    let file = image(alloc, &EXITS)?;
-    let mut rewritten = command(alloc, &["rewrite", "w1"], &file, b"", &[], &[])?.out;
-    let words = ["run", "w1"];
-    assert!(rt; comes_to(alloc, &words, &rewritten, &[], Status::Exited(7), b"", b"")?);
-    if let Some(byte) = rewritten.get_mut(9000) {
+    let mut file = rewritten(alloc)?;
+    let told = command(alloc, &["run", "w1"], &file, b"", &[], &[])?;
+    assert!(rt; is_told(&told, 7, b"", b""));
+    if let Some(byte) = file.get_mut(9000) {
         *byte ^= 1;
     }
-    assert!(rt;
-        comes_to(
-            alloc,
-            &words,
-            &rewritten,
-            &[],
-            Status::Refused(Refusal::Already),
-            b"",
-            b"spechint: w1: refused: E12 Already\n",
-        )?
-    );
+    let told = command(alloc, &["run", "w1"], &file, b"", &[], &[])?;
+    assert!(rt; is_told(&told, 121, b"", b"spechint: w1: refused: E12 Already\n"));
     Ok(())
 }

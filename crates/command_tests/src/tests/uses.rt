@@ -1,0 +1,52 @@
+//! The first uses in a trace, over a store and two sinks in memory.
+
+use super::commands::command;
+use super::images::image_with_data;
+use std::test::Fail;
+
+// Reads the first block of `data`, seeks to the block that its first byte names, reads there, and exits with
+// the byte that it then loads. The shadow's seek rests on the byte that it skipped, so that the second read
+// restarts it: the seek is instruction 8 from the first restart, the exit is instruction 4 from the second.
+const SEEKS_BY_A_BYTE: [u32; 26] = [
+    0x0020_0437, // lui x8,0x200
+    0x0004_0593, // addi x11,x8,0
+    0x0000_0613, // addi x12,x0,0
+    0x0380_0893, // addi x17,x0,56
+    0x0000_0073, // ecall
+    0x0005_0493, // addi x9,x10,0
+    0x0004_8513, // addi x10,x9,0
+    0x0020_15B7, // lui x11,0x201
+    0x0000_1637, // lui x12,1
+    0x03F0_0893, // addi x17,x0,63
+    0x0000_0073, // ecall: the read that restarts the shadow
+    0x0005_C283, // lbu x5,0(x11)
+    0x00C2_9293, // slli x5,x5,12
+    0x0002_8593, // addi x11,x5,0
+    0x0004_8513, // addi x10,x9,0
+    0x0000_0613, // addi x12,x0,0
+    0x03E0_0893, // addi x17,x0,62
+    0x0000_0073, // ecall: the seek by a marked x11
+    0x0004_8513, // addi x10,x9,0
+    0x0020_15B7, // lui x11,0x201
+    0x0400_0613, // addi x12,x0,64
+    0x03F0_0893, // addi x17,x0,63
+    0x0000_0073, // ecall: the read that restarts it once more
+    0x0005_C503, // lbu x10,0(x11)
+    0x05D0_0893, // addi x17,x0,93
+    0x0000_0073, // ecall: the exit with a marked x10
+];
+
+#[test]
+fn a_trace_tells_the_first_use_of_each_restart(rt: HostRuntime) -> Result<(), Fail> {
+    let alloc = rt.alloc();
+    let file = image_with_data(alloc, &SEEKS_BY_A_BYTE)?;
+    let data = vec![in alloc; 7u8; 163_840]?;
+    let told = command(alloc, &["trace", "--uses", "w1"], &file, &data, &[], &[])?;
+    assert_eq!(rt; told.status.code(), 7);
+    assert!(rt;
+        told.out.as_slice().ends_with(
+            b"\n18 15 use 8\n18 15 call 62 3 28672 0 28672\n22 0 restart 64617461 28672 64\n22 3 park Exit\n22 3 stall 64617461 7\n22 3 fetch 64617461 7\n23 3 call 63 3 2101248 64 64\n26 3 use 4\n26 3 exit 7\n"
+        )
+    );
+    Ok(())
+}
