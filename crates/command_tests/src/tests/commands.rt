@@ -1,5 +1,6 @@
 //! Commands over a store and two outputs in memory.
 
+use super::images::reads;
 use spec_base::Name;
 use spechint_commands::{Status, spechint};
 use std::alloc::Global;
@@ -109,6 +110,28 @@ pub fn command(
 }
 
 /// What `plain w1` comes to.
-pub fn plain(alloc: Global, file: &[u8], fails: &[u64], stops: &[u64]) -> Result<Told, Fail> {
-    command(alloc, &["plain", "w1"], file, b"", fails, stops)
+pub fn plain(alloc: Global, file: &[u8]) -> Result<Told, Fail> {
+    command(alloc, &["plain", "w1"], file, b"", &[], &[])
+}
+
+/// What a command line comes to over a program that reads 64 bytes of each of the 40 blocks of `data`.
+pub fn over_reads(alloc: Global, words: &[&str], fails: &[u64]) -> Result<Told, Fail> {
+    let data = vec![in alloc; 7u8; 163_840]?;
+    command(alloc, words, &reads(alloc)?, &data, fails, &[])
+}
+
+/// A command line, the code that it ends with, and the bytes on both outputs.
+pub type Row = (&'static [&'static str], u8, &'static [u8], &'static [u8]);
+
+/// The first of these command lines that comes to something else, over a file and no data.
+pub fn first_wrong(alloc: Global, rows: &[Row], file: &[u8]) -> Result<Option<usize>, Fail> {
+    let mut number = 0usize;
+    for (words, code, out, err) in rows {
+        let told = command(alloc, words, file, b"", &[], &[])?;
+        if !is_told(&told, *code, out, err) {
+            return Ok(Some(number));
+        }
+        number = number.wrapping_add(1);
+    }
+    Ok(None)
 }

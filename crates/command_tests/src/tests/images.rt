@@ -32,3 +32,55 @@ pub fn image_with_data(alloc: Global, words: &[u32]) -> Result<Vec<u8>, Fail> {
 pub fn reads(alloc: Global) -> Result<Vec<u8>, Fail> {
     Ok(demo_image(alloc, 0)?)
 }
+
+// The header of a file with two entries of a table behind it, and with sections at 0x1000.
+const LINKED: [u8; 64] = [
+    0x7F, 0x45, 0x4C, 0x46, 2, 1, 1, 0, 0, 0, 0, 0, 0, 0, 0, 0, // ident
+    2, 0, 243, 0, 1, 0, 0, 0, 0xE8, 0, 1, 0, 0, 0, 0, 0, // type, machine, version, entry
+    64, 0, 0, 0, 0, 0, 0, 0, 0, 0x10, 0, 0, 0, 0, 0, 0, // phoff, shoff
+    0, 0, 0, 0, 64, 0, 56, 0, 2, 0, 64, 0, 3, 0, 0, 0, // flags, sizes and numbers of entries
+];
+
+// Appends numbers of 64 bits.
+fn push_numbers(bytes: &mut Vec<u8>, numbers: &[u64]) -> Result<(), Fail> {
+    for number in numbers {
+        bytes.extend_from_slice(&number.to_le_bytes())?;
+    }
+    Ok(())
+}
+
+// The front of a linked file up to its sections: an entry of attributes, and one of a segment with headers, text and
+// the string `hi` with a newline.
+fn push_segment(bytes: &mut Vec<u8>, words: &[u32]) -> Result<(), Fail> {
+    bytes.extend_from_slice(&0x7000_0003u32.to_le_bytes())?;
+    bytes.resize(120, 0)?;
+    push_numbers(
+        bytes,
+        &[0x5_0000_0001, 0, 0x1_0000, 0x1_0000, 0x1000, 0x1000, 0x1000],
+    )?;
+    bytes.resize(0xE8, 0)?;
+    for word in words {
+        bytes.extend_from_slice(&word.to_le_bytes())?;
+    }
+    bytes.resize(0x200, 0)?;
+    bytes.extend_from_slice(b"hi\n")?;
+    bytes.resize(0x1000, 0)?;
+    Ok(())
+}
+
+/// An image in the shape of a GNU link: attributes, and one segment of headers, a text at 0x100E8 and read-only data at
+/// 0x10200, which the sections tell apart. The header counts so many of its three sections.
+pub fn linked(alloc: Global, words: &[u32], sections: u8) -> Result<Vec<u8>, Fail> {
+    let mut header = LINKED;
+    header[60] = sections;
+    let mut bytes = header.to_vec(alloc)?;
+    push_segment(&mut bytes, words)?;
+    let size = words.len() as u64;
+    push_numbers(&mut bytes, &[0; 8])?;
+    push_numbers(
+        &mut bytes,
+        &[0, 6, 0x1_00E8, 0, size.wrapping_mul(4), 0, 0, 0],
+    )?;
+    push_numbers(&mut bytes, &[0, 2, 0x1_0200, 0, 3, 0, 0, 0])?;
+    Ok(bytes)
+}
