@@ -5,6 +5,7 @@ mod files;
 mod images;
 mod outputs;
 mod reaching;
+mod reports;
 mod rewriting;
 mod stores;
 mod traces;
@@ -80,7 +81,7 @@ const NEVER: &[u8] =
     b"spechint: instructions 3 stalls 0 restarts 0 matched 0 hints 0 regions 0 shadow 0 never\n";
 
 // Command lines over a program that exits with 7.
-const LINES: [Row; 11] = [
+const LINES: [Row; 12] = [
     (&["plain", "w1"], 7, b"", b""),
     (&["run", "--report", "w1"], 7, b"", NEVER),
     (&["trace", "w1"], 7, b"3 0 exit 7\n", b""),
@@ -97,6 +98,7 @@ const LINES: [Row; 11] = [
     (&["plain", "--report", "w1"], 120, b"", USAGE),
     (&["plain", "--turns", "0", "w1"], 120, b"", USAGE),
     (&["rewrite", "w1", "w1"], 120, b"", USAGE),
+    (&["run", "--layout", "3", "w1"], 120, b"", USAGE),
 ];
 
 #[test]
@@ -166,18 +168,17 @@ fn a_program_reads_its_file(rt: HostRuntime) -> Result<(), Fail> {
     Ok(())
 }
 
+const LOAD_OUT: &[u8] = b"spechint: trap LoadOut at 0x1007c\n";
+
 #[test]
 fn the_layout_moves_the_end_of_the_range(rt: HostRuntime) -> Result<(), Fail> {
     // lui x5,0x10000; lbu x10,0(x5); addi x17,x0,93; ecall
     let words = [0x1000_02B7, 0x0002_C503, 0x05D0_0893, 0x0000_0073];
-    let rows: [Row; 2] = [
+    let rows: [Row; 4] = [
         (&["plain", "w1"], 0, b"", b""),
-        (
-            &["plain", "--layout", "1", "w1"],
-            126,
-            b"",
-            b"spechint: trap LoadOut at 0x1007c\n",
-        ),
+        (&["run", "w1"], 0, b"", b""),
+        (&["plain", "--layout", "1", "w1"], 126, b"", LOAD_OUT),
+        (&["run", "--layout", "1", "w1"], 126, b"", LOAD_OUT),
     ];
     let file = image(rt.alloc(), &words)?;
     assert_eq!(rt; first_wrong(rt.alloc(), &rows, &file)?, None);

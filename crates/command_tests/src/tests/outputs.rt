@@ -1,7 +1,7 @@
 //! Commands over outputs whose puts fail, or take one byte at a time.
 
 use super::commands::{Told, command_over, is_told, output, slow_output};
-use super::images::{EXITS, image};
+use super::images::image;
 use std::alloc::Global;
 use std::test::Fail;
 use world_io::MemSink;
@@ -81,42 +81,64 @@ fn a_trace_puts_lines_alone(rt: HostRuntime) -> Result<(), Fail> {
     Ok(())
 }
 
-// What a run with its report, whose turns are over behind two instructions, puts on standard error: the report in one
-// put, and the text of the status in three.
-const REPORT: &[u8] =
-    b"spechint: instructions 2 stalls 0 restarts 0 matched 0 hints 0 regions 0 shadow 0 never\nspechint: turns over after 2 instructions\n";
+// Puts the two bytes of its name, and then has no instruction.
+const PUTS_AND_ENDS: [u32; 5] = [
+    0x0010_0513, // addi x10, x0, 1
+    0x03D1_0593, // addi x11, x2, 61
+    0x0020_0613, // addi x12, x0, 2
+    0x0400_0893, // addi x17, x0, 64
+    0x0000_0073, // ecall
+];
 
-// What such a run comes to over a standard error.
-fn over_error(alloc: Global, err: MemSink) -> Result<Told, Fail> {
-    let words = ["run", "--report", "--pattern=O1", "--turns=7", "w1"];
-    let file = image(alloc, &EXITS)?;
-    command_over(alloc, &words, &file, b"", &[], output(alloc, &[])?, err)
+// What its run puts on standard error: the report in one put, and the text of the trap in five.
+const REPORT: &[u8] =
+    b"spechint: instructions 5 stalls 0 restarts 0 matched 0 hints 0 regions 0 shadow 0 never\nspechint: trap FetchOut at 0x1008c\n";
+
+// Whether its run over this standard error ends with a code, and standard error takes so many bytes of that.
+fn reports(alloc: Global, err: MemSink, code: u8, taken: usize) -> Result<bool, Fail> {
+    let file = image(alloc, &PUTS_AND_ENDS)?;
+    let words = ["run", "--report", "w1"];
+    let told = command_over(alloc, &words, &file, b"", &[], output(alloc, &[])?, err)?;
+    let taken = REPORT.get(..taken).unwrap_or(b"");
+    Ok(is_told(&told, code, b"w1", taken))
 }
+
+// The put on standard error that fails, the code, and how many bytes were taken.
+const FAILED_TEXTS: [(u64, u8, usize); 7] = [
+    (1, 123, 0),
+    (2, 126, 88),
+    (3, 126, 103),
+    (4, 126, 111),
+    (5, 126, 117),
+    (6, 126, 122),
+    (7, 126, 123),
+];
 
 #[test]
 fn a_failed_report_is_a_fault_and_a_failed_text_none(rt: HostRuntime) -> Result<(), Fail> {
     let alloc = rt.alloc();
-    for (number, code, front) in [
-        (1u64, 123u8, 0usize),
-        (2, 124, 88),
-        (3, 124, 115),
-        (4, 124, 116),
-        (5, 124, 130),
-    ] {
-        let told = over_error(alloc, output(alloc, &[number])?)?;
-        let taken = REPORT.get(..front).unwrap_or(REPORT);
-        assert!(rt; is_told(&told, code, b"", taken), "put {number}");
+    for (number, code, taken) in FAILED_TEXTS {
+        let err = output(alloc, &[number])?;
+        assert!(rt; reports(alloc, err, code, taken)?, "put {number}");
     }
     Ok(())
 }
 
+// The same where each put takes one byte.
+const SLOW_TEXTS: [(u64, u8, usize); 5] = [
+    (1, 123, 0),
+    (88, 123, 87),
+    (89, 126, 88),
+    (123, 126, 122),
+    (124, 126, 123),
+];
+
 #[test]
 fn a_report_is_put_byte_by_byte(rt: HostRuntime) -> Result<(), Fail> {
     let alloc = rt.alloc();
-    for (number, code) in [(1u64, 123u8), (88, 123), (89, 124), (130, 124), (131, 124)] {
-        let told = over_error(alloc, slow_output(alloc, &[number])?)?;
-        let taken = REPORT.get(..number as usize - 1).unwrap_or(REPORT);
-        assert!(rt; is_told(&told, code, b"", taken), "put {number}");
+    for (number, code, taken) in SLOW_TEXTS {
+        let err = slow_output(alloc, &[number])?;
+        assert!(rt; reports(alloc, err, code, taken)?, "put {number}");
     }
     Ok(())
 }

@@ -1,6 +1,6 @@
 //! The commands `replay` and `plan` over a trace in memory.
 
-use super::commands::{Row, command, first_wrong};
+use super::commands::{Row, command, first_wrong, over_reads};
 use std::test::Fail;
 
 // Three blocks, and the first two of them again.
@@ -57,6 +57,34 @@ fn the_first_bad_line_is_told(rt: HostRuntime) -> Result<(), Fail> {
         first_wrong(rt.alloc(), &rows, b"1 0 turns\n1 0 turn\n")?,
         None
     );
+    Ok(())
+}
+
+// All reads behind the first are hinted. A fetch that takes as long as the run makes each read wait.
+#[test]
+fn the_trace_of_a_run_is_replayed_and_planned(rt: HostRuntime) -> Result<(), Fail> {
+    let rows: [Row; 3] = [
+        (
+            &["replay", "w1"],
+            0,
+            b"replay reads 40 needs 40 stalls 1 fetches 40\n",
+            b"",
+        ),
+        (
+            &["replay", "--every", "1000000", "w1"],
+            0,
+            b"replay reads 40 needs 40 stalls 40 fetches 40\n",
+            b"",
+        ),
+        (
+            &["plan", "w1"],
+            0,
+            b"plan needs 40 fetches 40 blocks 256\n",
+            b"",
+        ),
+    ];
+    let trace = over_reads(rt.alloc(), &["trace", "w1"], &[])?.out;
+    assert_eq!(rt; first_wrong(rt.alloc(), &rows, &trace)?, None);
     Ok(())
 }
 
