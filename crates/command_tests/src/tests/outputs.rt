@@ -55,8 +55,15 @@ fn a_failed_put_of_the_program_is_the_last(rt: HostRuntime) -> Result<(), Fail> 
 }
 
 // What a trace of PUTS_ON_BOTH puts: nine lines, each of which is one put.
-const LINES: &[u8] =
-    b"5 0 text 1 7731\n5 0 call 64 1 1073741821 2 2\n7 0 text 2 7731\n7 0 call 64 2 1073741821 2 2\n10 0 text 1 77\n10 0 call 64 1 1073741821 1 1\n12 0 text 2 77\n12 0 call 64 2 1073741821 1 1\n14 0 exit 1\n";
+const LINES: &[u8] = b"5 0 text 1 7731\n\
+    5 0 call 64 1 1073741821 2 2\n\
+    7 0 text 2 7731\n\
+    7 0 call 64 2 1073741821 2 2\n\
+    10 0 text 1 77\n\
+    10 0 call 64 1 1073741821 1 1\n\
+    12 0 text 2 77\n\
+    12 0 call 64 2 1073741821 1 1\n\
+    14 0 exit 1\n";
 
 // How much of it was put before each line.
 const FRONTS: [usize; 9] = [0, 16, 45, 61, 90, 105, 135, 150, 180];

@@ -74,8 +74,18 @@ fn reading(alloc: Global, words: &[u32]) -> Result<Vec<u8>, Fail> {
 }
 
 // The shadow never moves, so that each read restarts it.
-const STANDING: &[u8] =
-    b"5 0 call 56 0 2097152 0 3\n10 0 restart 64617461 0 4096\n10 0 stall 64617461 0\n10 0 fetch 64617461 0\n11 0 call 63 3 2101248 4096 4096\n12 0 restart 64617461 4096 904\n12 0 stall 64617461 1\n12 0 fetch 64617461 1\n13 0 call 63 3 2101248 4096 904\n14 0 restart 64617461 5000 0\n15 0 call 63 3 2101248 4096 0\n17 0 exit 0\n";
+const STANDING: &[u8] = b"5 0 call 56 0 2097152 0 3\n\
+    10 0 restart 64617461 0 4096\n\
+    10 0 stall 64617461 0\n\
+    10 0 fetch 64617461 0\n\
+    11 0 call 63 3 2101248 4096 4096\n\
+    12 0 restart 64617461 4096 904\n\
+    12 0 stall 64617461 1\n\
+    12 0 fetch 64617461 1\n\
+    13 0 call 63 3 2101248 4096 904\n\
+    14 0 restart 64617461 5000 0\n\
+    15 0 call 63 3 2101248 4096 0\n\
+    17 0 exit 0\n";
 
 // The shadow hints both reads behind the first, of which the last gives nothing.
 const HINTED: &[u8] =
@@ -90,8 +100,21 @@ const FILLED: &[u8] =
     b"spechint: instructions 25 stalls 1 restarts 2 matched 1 hints 1 regions 1 shadow 5 parked Exit\n";
 
 // The same, told: the shadow is at its third instruction behind the read as it hints.
-const FILLS: &[u8] =
-    b"5 0 call 56 0 2097152 0 3\n9 0 restart 64617461 0 64\n9 0 stall 64617461 0\n9 0 fetch 64617461 0\n10 0 call 63 3 2101248 64 64\n15 0 call 62 3 0 0 0\n19 0 restart 64617461 0 64\n19 0 fill 64617461 0 64\n19 3 hint 64617461 64 7\n19 3 fill 64617461 64 7\n19 5 park Exit\n20 5 call 63 3 2101248 64 64\n23 5 match 64617461 64 7\n23 5 call 63 3 2101248 7 7\n25 5 exit 7\n";
+const FILLS: &[u8] = b"5 0 call 56 0 2097152 0 3\n\
+    9 0 restart 64617461 0 64\n\
+    9 0 stall 64617461 0\n\
+    9 0 fetch 64617461 0\n\
+    10 0 call 63 3 2101248 64 64\n\
+    15 0 call 62 3 0 0 0\n\
+    19 0 restart 64617461 0 64\n\
+    19 0 fill 64617461 0 64\n\
+    19 3 hint 64617461 64 7\n\
+    19 3 fill 64617461 64 7\n\
+    19 5 park Exit\n\
+    20 5 call 63 3 2101248 64 64\n\
+    23 5 match 64617461 64 7\n\
+    23 5 call 63 3 2101248 7 7\n\
+    25 5 exit 7\n";
 
 // What a command line comes to over a program and `data` of 5,000 bytes, each 7.
 type Row = (

@@ -94,7 +94,15 @@ fn a_trace_tells_the_first_use_of_each_restart(rt: HostRuntime) -> Result<(), Fa
     assert_eq!(rt; told.status.code(), 7);
     assert!(rt;
         told.out.as_slice().ends_with(
-            b"\n18 15 use 8\n18 15 call 62 3 28672 0 28672\n22 0 restart 64617461 28672 64\n22 3 park Exit\n22 3 stall 64617461 7\n22 3 fetch 64617461 7\n23 3 call 63 3 2101248 64 64\n26 3 use 4\n26 3 exit 7\n"
+            b"\n18 15 use 8\n\
+            18 15 call 62 3 28672 0 28672\n\
+            22 0 restart 64617461 28672 64\n\
+            22 3 park Exit\n\
+            22 3 stall 64617461 7\n\
+            22 3 fetch 64617461 7\n\
+            23 3 call 63 3 2101248 64 64\n\
+            26 3 use 4\n\
+            26 3 exit 7\n"
         )
     );
     Ok(())
