@@ -1,115 +1,111 @@
-//! The commands over a store and two sinks in memory.
+//! The commands over a store and two outputs in memory.
 
-mod run;
+mod commands;
+mod files;
+mod images;
+mod outputs;
+mod reaching;
+mod reports;
+mod rewriting;
+mod stores;
+mod traces;
+mod uses;
 
+use commands::{Row, first_wrong, is_told, over_reads, plain};
 use elf_image::Refusal;
-use spec_base::{Name, Trap};
-use spechint_commands::{Status, spechint};
+use images::{EXITS, image};
+use spec_base::Trap;
+use spechint_commands::Status;
 use std::alloc::Global;
 use std::test::Fail;
-use world_io::{MemSink, MemStore};
-
-// The headers of an image of one segment, which is its text, up to the segment's sizes; and behind.
-const FRONT: [u8; 96] = [
-    0x7F, 0x45, 0x4C, 0x46, 2, 1, 1, 0, 0, 0, 0, 0, 0, 0, 0, 0, // ident
-    2, 0, 243, 0, 1, 0, 0, 0, 0x78, 0, 1, 0, 0, 0, 0, 0, // type, machine, version, entry
-    64, 0, 0, 0, 0, 0, 0, 0, 0, 0, 0, 0, 0, 0, 0, 0, // phoff, shoff
-    0, 0, 0, 0, 64, 0, 56, 0, 1, 0, 0, 0, 0, 0, 0, 0, // flags and the rest
-    1, 0, 0, 0, 5, 0, 0, 0, 120, 0, 0, 0, 0, 0, 0, 0, // type, flags, offset
-    0x78, 0, 1, 0, 0, 0, 0, 0, 0x78, 0, 1, 0, 0, 0, 0, 0, // addresses
-];
-
-const BACK: [u8; 8] = [0, 0x10, 0, 0, 0, 0, 0, 0];
 
 // Puts the name that it is called by, and exits with 0.
 const PUTS_ITS_NAME: [u32; 8] = [
-    0x0010_0513,
-    0x03D1_0593,
-    0x0020_0613,
-    0x0400_0893,
-    0x0000_0073,
-    0x0000_0513,
-    0x05D0_0893,
-    0x0000_0073,
+    0x0010_0513, // addi x10,x0,1
+    0x03D1_0593, // addi x11,x2,61
+    0x0020_0613, // addi x12,x0,2
+    0x0400_0893, // addi x17,x0,64
+    0x0000_0073, // ecall
+    0x0000_0513, // addi x10,x0,0
+    0x05D0_0893, // addi x17,x0,93
+    0x0000_0073, // ecall
 ];
-// Exits with 7.
-const EXITS: [u32; 3] = [0x0070_0513, 0x05D0_0893, 0x0000_0073];
+
 // One ADDI, and then nothing.
 const ENDS: [u32; 1] = [0x0070_0513];
-// Reads 64 bytes of each of the 40 blocks of the file `data`, and then puts `done`.
-const READS: [u32; 31] = [
-    0x0020_0437,
-    0x0004_0593,
-    0x0000_0613,
-    0x0380_0893,
-    0x0000_0073,
-    0x0005_0493,
-    0x0000_0913,
-    0x0280_0993,
-    0x0000_1A37,
-    0x0004_8513,
-    0x0009_0593,
-    0x0000_0613,
-    0x03E0_0893,
-    0x0000_0073,
-    0x0004_8513,
-    0x0020_15B7,
-    0x0400_0613,
-    0x03F0_0893,
-    0x0000_0073,
-    0x1134_2023,
-    0x0149_0933,
-    0xFFF9_8993,
-    0xFC09_96E3,
-    0x0010_0513,
-    0x0084_0593,
-    0x0050_0613,
-    0x0400_0893,
-    0x0000_0073,
-    0x0000_0513,
-    0x05D0_0893,
-    0x0000_0073,
-];
+
 // No instruction.
 const ILLEGAL: [u32; 1] = [0];
 
-fn image(alloc: Global, words: &[u32]) -> Result<Vec<u8>, Fail> {
-    let mut bytes = FRONT.to_vec(alloc)?;
-    let size = words.len() as u64 * 4;
-    bytes.extend_from_slice(&size.to_le_bytes())?;
-    bytes.extend_from_slice(&size.to_le_bytes())?;
-    bytes.extend_from_slice(&BACK)?;
-    for word in words {
-        bytes.extend_from_slice(&word.to_le_bytes())?;
-    }
-    Ok(bytes)
-}
-
-// One entry of the header table: flags, offset, address, and both sizes.
-fn push_entry(bytes: &mut Vec<u8>, flags: u32, fields: [u64; 4]) -> Result<(), Fail> {
-    let [offset, address, length, size] = fields;
-    bytes.extend_from_slice(&1u32.to_le_bytes())?;
-    bytes.extend_from_slice(&flags.to_le_bytes())?;
-    for field in [offset, address, address, length, size, 0x1000] {
-        bytes.extend_from_slice(&field.to_le_bytes())?;
+#[test]
+fn a_program_ends(rt: HostRuntime) -> Result<(), Fail> {
+    let alloc = rt.alloc();
+    let rows: [(&[u32], u8, &[u8], &[u8]); 3] = [
+        (&PUTS_ITS_NAME, 0, b"w1", b""),
+        (&ENDS, 126, b"", b"spechint: trap FetchOut at 0x1007c\n"),
+        (&ILLEGAL, 126, b"", b"spechint: trap Illegal at 0x10078\n"),
+    ];
+    for (words, code, out, err) in rows {
+        let told = plain(alloc, &image(alloc, words)?)?;
+        assert!(rt; is_told(&told, code, out, err), "{words:?}");
     }
     Ok(())
 }
 
-// An image of a text at 0x100B0, and of 0x3000 bytes at 0x200000 that begin with the names that
-// READS wants.
-fn image_with_data(alloc: Global, words: &[u32]) -> Result<Vec<u8>, Fail> {
-    let size = words.len() as u64 * 4;
-    let mut bytes = FRONT[..64].to_vec(alloc)?;
-    bytes[24] = 0xB0;
-    bytes[56] = 2;
-    push_entry(&mut bytes, 5, [176, 0x1_00B0, size, size])?;
-    push_entry(&mut bytes, 6, [176 + size, 0x20_0000, 16, 0x3000])?;
-    for word in words {
-        bytes.extend_from_slice(&word.to_le_bytes())?;
+#[test]
+fn each_status_has_its_code(rt: HostRuntime) -> Result<(), Fail> {
+    let rows = [
+        (Status::Exited(255), 255u8),
+        (Status::Done, 0),
+        (Status::TooMany, 117),
+        (Status::BadLine(1), 118),
+        (Status::Absent, 119),
+        (Status::Usage, 120),
+        (Status::Refused(Refusal::Magic), 121),
+        (Status::StoreFault, 122),
+        (Status::SinkFault, 123),
+        (Status::TurnsOver(5), 124),
+        (Status::NoMemory, 125),
+        (Status::Trapped(Trap::Break, 0), 126),
+    ];
+    for (status, code) in &rows {
+        assert_eq!(rt; status.code(), *code);
     }
-    bytes.extend_from_slice(b"data\0\0\0\0done\n\0\0\0")?;
-    Ok(bytes)
+    Ok(())
+}
+
+const USAGE: &[u8] =
+    b"spechint: usage: spechint plain|rewrite|run|trace [OPTIONS] IMAGE [ARGS], or spechint demo N\n";
+
+const NEVER: &[u8] =
+    b"spechint: instructions 3 stalls 0 restarts 0 matched 0 hints 0 regions 0 shadow 0 never\n";
+
+// Command lines over a program that exits with 7.
+const LINES: [Row; 12] = [
+    (&["plain", "w1"], 7, b"", b""),
+    (&["run", "--report", "w1"], 7, b"", NEVER),
+    (&["trace", "w1"], 7, b"3 0 exit 7\n", b""),
+    (
+        &["run", "--pattern", "S1", "--turns", "1000", "w1"],
+        124,
+        b"",
+        b"spechint: turns over after 0 instructions\n",
+    ),
+    (&["plain", "w2"], 119, b"", b"spechint: cannot find w2\n"),
+    (&["replay", "w2"], 119, b"", b"spechint: cannot find w2\n"),
+    (&["plan", "w1"], 118, b"", b"spechint: w1: bad line 1\n"),
+    (&[], 120, b"", USAGE),
+    (&["plain", "--report", "w1"], 120, b"", USAGE),
+    (&["plain", "--turns", "0", "w1"], 120, b"", USAGE),
+    (&["rewrite", "w1", "w1"], 120, b"", USAGE),
+    (&["run", "--layout", "3", "w1"], 120, b"", USAGE),
+];
+
+#[test]
+fn a_command_line_comes_to_its_end(rt: HostRuntime) -> Result<(), Fail> {
+    let file = image(rt.alloc(), &EXITS)?;
+    assert_eq!(rt; first_wrong(rt.alloc(), &LINES, &file)?, None);
+    Ok(())
 }
 
 // A program that makes the call of this number with one more register set, and exits with the answer.
@@ -126,152 +122,6 @@ fn call(alloc: Global, number: u32, set: u32) -> Result<Vec<u8>, Fail> {
     )
 }
 
-#[derive(Drop)]
-struct Told {
-    status: Status,
-    out: Vec<u8>,
-    err: Vec<u8>,
-}
-
-// What these words come to over a store with the files `w1` and `data`, whose calls in `fails` fail,
-// and an output whose puts in `stops` fail. A file of 4,096 bytes isn't put into the store.
-fn command(
-    alloc: Global,
-    words: &[&str],
-    file: &[u8],
-    data: &[u8],
-    fails: &[u64],
-    stops: &[u64],
-) -> Result<Told, Fail> {
-    let mut store = MemStore::new(alloc, fails.to_vec(alloc)?);
-    if file.len() < 1_000_000 && file.len() != 4096 {
-        store.add(Name::new(b"w1").ok_or("name")?, file)?;
-    }
-    if data.len() < 1_000_000 {
-        store.add(Name::new(b"data").ok_or("name")?, data)?;
-    }
-    let mut out = MemSink::new(alloc, 20_000, stops.to_vec(alloc)?, Vec::new(alloc))?;
-    let mut err = MemSink::new(alloc, 200, Vec::new(alloc), Vec::new(alloc))?;
-    let mut given = Vec::new(alloc);
-    for word in words {
-        given.push(String::from_str(alloc, word)?)?;
-    }
-    let status = spechint(alloc, &given, &mut store, &mut out, &mut err);
-    Ok(Told {
-        status,
-        out: out.bytes().to_vec(alloc)?,
-        err: err.bytes().to_vec(alloc)?,
-    })
-}
-
-// What `plain w1` comes to.
-fn plain(alloc: Global, file: &[u8], fails: &[u64], stops: &[u64]) -> Result<Told, Fail> {
-    command(alloc, &["plain", "w1"], file, b"", fails, stops)
-}
-
-#[test]
-fn a_program_runs(rt: HostRuntime) -> Result<(), Fail> {
-    let alloc = rt.alloc();
-    let told = plain(alloc, &image(alloc, &PUTS_ITS_NAME)?, &[], &[])?;
-    assert_eq!(rt; told.status, Status::Exited(0));
-    assert_eq!(rt; told.out.as_slice(), b"w1".as_slice());
-    assert_eq!(rt; told.err.as_slice(), b"".as_slice());
-    let told = plain(alloc, &image(alloc, &EXITS)?, &[], &[])?;
-    assert_eq!(rt; told.status, Status::Exited(7));
-    assert_eq!(rt; told.status.code(), 7);
-    Ok(())
-}
-
-#[test]
-fn a_status_has_its_text(rt: HostRuntime) -> Result<(), Fail> {
-    let alloc = rt.alloc();
-    let told = plain(alloc, &image(alloc, &ENDS)?, &[], &[])?;
-    assert_eq!(rt; told.status, Status::Trapped(Trap::FetchOut, 0x1_007C));
-    assert_eq!(rt;
-        told.err.as_slice(),
-        b"spechint: trap FetchOut at 0x1007c\n".as_slice()
-    );
-    let told = plain(alloc, &image(alloc, &ILLEGAL)?, &[], &[])?;
-    assert_eq!(rt; told.status, Status::Trapped(Trap::Illegal, 0x1_0078));
-    assert_eq!(rt;
-        told.err.as_slice(),
-        b"spechint: trap Illegal at 0x10078\n".as_slice()
-    );
-    let told = plain(alloc, &FRONT[..40], &[], &[])?;
-    assert_eq!(rt; told.status, Status::Refused(Refusal::Short));
-    assert_eq!(rt;
-        told.err.as_slice(),
-        b"spechint: w1: refused: E2 Short\n".as_slice()
-    );
-    let told = plain(alloc, &[0; 4096], &[], &[])?;
-    assert_eq!(rt; told.status, Status::Absent);
-    assert_eq!(rt;
-        told.err.as_slice(),
-        b"spechint: cannot find w1\n".as_slice()
-    );
-    Ok(())
-}
-
-#[test]
-fn faults_come_where_they_are_listed(rt: HostRuntime) -> Result<(), Fail> {
-    let alloc = rt.alloc();
-    let file = image(alloc, &PUTS_ITS_NAME)?;
-    assert_eq!(rt; plain(alloc, &file, &[1], &[])?.status, Status::StoreFault);
-    assert_eq!(rt; plain(alloc, &file, &[2], &[])?.status, Status::StoreFault);
-    assert_eq!(rt; plain(alloc, &file, &[3], &[])?.status, Status::Exited(0));
-    assert_eq!(rt; plain(alloc, &file, &[], &[1])?.status, Status::SinkFault);
-    Ok(())
-}
-
-#[test]
-fn each_status_has_its_code(rt: HostRuntime) -> Result<(), Fail> {
-    let rows = [
-        (Status::Exited(255), 255u8),
-        (Status::Done, 0),
-        (Status::Absent, 119),
-        (Status::Usage, 120),
-        (Status::Refused(Refusal::Magic), 121),
-        (Status::StoreFault, 122),
-        (Status::SinkFault, 123),
-        (Status::TurnsOver(5), 124),
-        (Status::NoMemory, 125),
-        (Status::Trapped(Trap::Break, 0), 126),
-    ];
-    for (status, code) in &rows {
-        assert_eq!(rt; status.code(), *code);
-    }
-    Ok(())
-}
-
-#[test]
-fn words_that_are_no_command_line_are_usage(rt: HostRuntime) -> Result<(), Fail> {
-    let alloc = rt.alloc();
-    let none = [0; 4096];
-    let told = command(alloc, &["plain", "--report", "w1"], &none, b"", &[], &[])?;
-    assert_eq!(rt; told.status, Status::Usage);
-    assert_eq!(rt;
-        told.err.as_slice(),
-        b"spechint: usage: spechint plain|rewrite|run|trace [OPTIONS] IMAGE [ARGS], or spechint demo N\n".as_slice()
-    );
-    assert_eq!(rt;
-        command(alloc, &[], &none, b"", &[], &[])?.status,
-        Status::Usage
-    );
-    assert_eq!(rt;
-        command(
-            alloc,
-            &["plain", "--turns", "0", "w1"],
-            &none,
-            b"",
-            &[],
-            &[]
-        )?
-        .status,
-        Status::Usage
-    );
-    Ok(())
-}
-
 #[test]
 fn each_call_has_its_answer(rt: HostRuntime) -> Result<(), Fail> {
     let alloc = rt.alloc();
@@ -285,141 +135,52 @@ fn each_call_has_its_answer(rt: HostRuntime) -> Result<(), Fail> {
         (1, 0x0000_0513, 218),
     ];
     for (number, set, code) in rows {
-        let told = plain(alloc, &call(alloc, number, set)?, &[], &[])?;
-        assert_eq!(rt; told.status, Status::Exited(code));
+        let told = plain(alloc, &call(alloc, number, set)?)?;
+        assert!(rt; is_told(&told, code, b"", b""), "{number}");
     }
     Ok(())
 }
+
+// Command lines over a program that reads 40 blocks.
+const READINGS: [Row; 4] = [
+    (&["plain", "w1"], 0, b"done\n", b""),
+    (&["plain", "--turns", "577", "w1"], 0, b"done\n", b""),
+    (
+        &["plain", "w1", "--turns=576"],
+        124,
+        b"done\n",
+        b"spechint: turns over after 576 instructions\n",
+    ),
+    (
+        &["run", "--report", "w1"],
+        0,
+        b"done\n",
+        b"spechint: instructions 577 stalls 1 restarts 1 matched 39 hints 39 regions 1 shadow 558 parked Exit\n",
+    ),
+];
 
 #[test]
 fn a_program_reads_its_file(rt: HostRuntime) -> Result<(), Fail> {
-    let alloc = rt.alloc();
-    let file = image_with_data(alloc, &READS)?;
-    let data = vec![in alloc; 7u8; 163_840]?;
-    let told = command(alloc, &["plain", "w1"], &file, &data, &[], &[])?;
-    assert_eq!(rt; told.status, Status::Exited(0));
-    assert_eq!(rt; told.out.as_slice(), b"done\n".as_slice());
-    let told = command(
-        alloc,
-        &["plain", "--turns", "577", "w1"],
-        &file,
-        &data,
-        &[],
-        &[],
-    )?;
-    assert_eq!(rt; told.status, Status::Exited(0));
-    let told = command(
-        alloc,
-        &["plain", "w1", "--turns=576"],
-        &file,
-        &data,
-        &[],
-        &[],
-    )?;
-    assert_eq!(rt; told.status, Status::TurnsOver(576));
-    assert_eq!(rt;
-        told.err.as_slice(),
-        b"spechint: turns over after 576 instructions\n".as_slice()
-    );
-    assert_eq!(rt;
-        command(alloc, &["plain", "w1"], &file, &data, &[3], &[])?.status,
-        Status::StoreFault
-    );
-    assert_eq!(rt;
-        command(alloc, &["plain", "w1"], &file, &data, &[4], &[])?.status,
-        Status::StoreFault
-    );
+    for (words, code, out, err) in READINGS {
+        let told = over_reads(rt.alloc(), words, &[])?;
+        assert!(rt; is_told(&told, code, out, err), "{words:?}");
+    }
     Ok(())
 }
+
+const LOAD_OUT: &[u8] = b"spechint: trap LoadOut at 0x1007c\n";
 
 #[test]
 fn the_layout_moves_the_end_of_the_range(rt: HostRuntime) -> Result<(), Fail> {
-    let alloc = rt.alloc();
     // lui x5,0x10000; lbu x10,0(x5); addi x17,x0,93; ecall
-    let file = image(alloc, &[0x1000_02B7, 0x0002_C503, 0x05D0_0893, 0x0000_0073])?;
-    assert_eq!(rt; plain(alloc, &file, &[], &[])?.status, Status::Exited(0));
-    let told = command(
-        alloc,
-        &["plain", "--layout", "1", "w1"],
-        &file,
-        b"",
-        &[],
-        &[],
-    )?;
-    assert_eq!(rt; told.status, Status::Trapped(Trap::LoadOut, 0x1_007C));
-    Ok(())
-}
-
-#[test]
-fn a_rewritten_file_is_put(rt: HostRuntime) -> Result<(), Fail> {
-    let alloc = rt.alloc();
-    let file = image(alloc, &EXITS)?;
-    let told = command(alloc, &["rewrite", "w1"], &file, b"", &[], &[])?;
-    assert_eq!(rt; told.status, Status::Done);
-    assert_eq!(rt; told.out.len(), 16_668);
-    assert_eq!(rt; told.err.len(), 0);
-    let again = command(alloc, &["rewrite", "w1"], &told.out, b"", &[], &[])?;
-    assert_eq!(rt; again.status, Status::Refused(Refusal::Already));
-    let told = command(alloc, &["rewrite", "w1"], &file, b"", &[], &[1])?;
-    assert_eq!(rt; told.status, Status::SinkFault);
-    let told = command(alloc, &["rewrite", "w1", "w1"], &file, b"", &[], &[])?;
-    assert_eq!(rt; told.status, Status::Usage);
-    Ok(())
-}
-
-// Three blocks, and the first two of them again.
-const AGAIN: &[u8] =
-    b"1 0 restart 61 4096 1\n2 0 restart 61 8192 1\n3 0 restart 61 12288 1\n4 0 restart 61 4096 1\n5 0 restart 61 8192 1\n";
-
-#[test]
-fn a_trace_is_replayed_and_planned(rt: HostRuntime) -> Result<(), Fail> {
-    let alloc = rt.alloc();
-    let rows = [
-        (
-            ["replay", "--blocks", "2", "w1"].as_slice(),
-            AGAIN,
-            Status::Done,
-            b"replay reads 5 needs 5 stalls 5 fetches 5\n".as_slice(),
-            b"".as_slice(),
-        ),
-        (
-            ["replay", "w1"].as_slice(),
-            b"",
-            Status::Done,
-            b"replay reads 0 needs 0 stalls 0 fetches 0\n",
-            b"",
-        ),
-        (
-            ["plan", "--blocks=2", "w1"].as_slice(),
-            AGAIN,
-            Status::Done,
-            b"plan needs 5 fetches 4 blocks 2\n",
-            b"",
-        ),
-        (
-            ["plan", "w1"].as_slice(),
-            b"1 0 turns\n1 0 turn\n",
-            Status::BadLine(2),
-            b"",
-            b"spechint: w1: bad line 2\n",
-        ),
-        (
-            ["replay", "w2"].as_slice(),
-            AGAIN,
-            Status::Absent,
-            b"",
-            b"spechint: cannot find w2\n",
-        ),
+    let words = [0x1000_02B7, 0x0002_C503, 0x05D0_0893, 0x0000_0073];
+    let rows: [Row; 4] = [
+        (&["plain", "w1"], 0, b"", b""),
+        (&["run", "w1"], 0, b"", b""),
+        (&["plain", "--layout", "1", "w1"], 126, b"", LOAD_OUT),
+        (&["run", "--layout", "1", "w1"], 126, b"", LOAD_OUT),
     ];
-    for (words, trace, status, out, err) in rows {
-        let told = command(alloc, words, trace, b"", &[], &[])?;
-        assert_eq!(rt; told.status, status);
-        assert_eq!(rt; told.out.as_slice(), out);
-        assert_eq!(rt; told.err.as_slice(), err);
-    }
-    let told = command(alloc, &["plan", "w1"], AGAIN, b"", &[2], &[])?;
-    assert_eq!(rt; told.status, Status::StoreFault);
-    let told = command(alloc, &["plan", "w1"], AGAIN, b"", &[], &[1])?;
-    assert_eq!(rt; told.status, Status::SinkFault);
+    let file = image(rt.alloc(), &words)?;
+    assert_eq!(rt; first_wrong(rt.alloc(), &rows, &file)?, None);
     Ok(())
 }
