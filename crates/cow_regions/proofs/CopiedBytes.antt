@@ -13,10 +13,6 @@ pub slot-entry : (e slot : ℕ) → Some slot ≡ slot_by_entry e → e ≡ suc 
 slot-entry zero slot h = cc
 slot-entry (suc e) slot h = (let same : slot ≡ suc e = cc in omega arith)
 
-pub slot-some : (e slot : ℕ) → Some slot ≡ slot_by_entry e → 1 ≤ slot
-slot-some zero slot h = cc
-slot-some (suc e) slot h = (let same : slot ≡ suc e = cc in omega arith)
-
 pub none-entry : (e : ℕ) → None ≡ slot_by_entry e → e ≡ 0
 none-entry zero h = refl
 none-entry (suc e) h = cc

@@ -1,10 +1,10 @@
 -- A region without a copy gets the next slot, and table and list stay consistent.
-use Rattle.std.proofs.Common.{◌≡◌, ◌≢◌, ℕ, zero, suc, ◌+◌, ◌-◌, ◌*◌, ◌^◌, ◌<◌, ◌≤◌, ◌⊎◌, inl, inr, Bool, true, false, ◌==◌, cond, List, refl, ◌∙◌, ap, sym, subst, arith}
+use Rattle.std.proofs.Common.{◌≡◌, ◌≢◌, ℕ, ◌+◌, ◌-◌, ◌*◌, ◌^◌, ◌<◌, ◌≤◌, ◌⊎◌, inl, inr, Bool, true, false, ◌==◌, cond, List, refl, ◌∙◌, ap, sym, subst, arith}
 use Rattle.std.proofs.lemmas.Bool.Decides.{nat_tests}
 use Rattle.spec_base.specs.Word.{byte_of}
 use Rattle.spec_base.specs.Layout.{table_start, list_start, copies_start}
 use Rattle.spec_base.specs.declared.layout.Layout.{Layout}
-use Rattle.rv_model.specs.Memory.{Memory, zeros, patched, stored, loaded}
+use Rattle.rv_model.specs.Memory.{Memory, patched, stored, loaded}
 use Rattle.rv_model.specs.Space.{program_byte}
 use Rattle.rv_model.proofs.Loads.{loaded-below_patch, loaded-above_patch, loaded-in_patch, loaded-stored}
 use Rattle.code_model.specs.Regions.{entry_address, entry_of, slots_in_use, listed_address, slot_address, with_copy}
@@ -150,17 +150,3 @@ module _ (l : Layout) (few : l.regions ≤ 65536) (words : List ℕ) (program sh
           (omega (arith, v, w.0, count-next), ap (λ (n : ℕ). loaded next (listed_address (n - 1)) 4) v ∙ listed-before (entry_of shared x - 1) before ∙ w.1)
 
 -- ---- at the start
-
-zero-number : (a n : ℕ) → loaded zeros a n ≡ 0
-unfolding loaded
-zero-number a zero = refl
-zero-number a (suc n) = omega (arith, zero-number (a + 1) n)
-
--- a memory of zeros has no copies
-pub consistent-zeros : (l : Layout) → AreConsistent l zeros
-consistent-zeros l =
-    record {
-      count = omega (arith, zero-number list_start 8);
-      listed = λ slot h. absurd (omega (arith, zero-number list_start 8));
-      entry = λ region h some. absurd (omega (arith, zero-number (entry_address region) 4));
-    }

@@ -133,7 +133,3 @@ IsSet-from s t a bytes i e before = record { space = AreSet-end s t a bytes i e 
 
 pub shares-more : (s t u : Space) → SharesAlone s t → SharesAlone t u → SharesAlone s u
 shares-more s t u e f = f ∙ ap (λ (w : Space). record w { shared = u.shared }) e
-
--- where it becomes this memory
-pub shares-as : (s t : Space) (m : Memory) → t ≡ record s { shared = m } → SharesAlone s t
-shares-as s t m e = e ∙ ap (λ (m : Memory). record s { shared = m }) (sym (ap (λ (w : Space). w.shared) e))

@@ -1,10 +1,9 @@
 -- A call's plan depends on memory only where it is data.
 use Rattle.std.proofs.Common.{◌≡◌, ℕ, zero, suc, ◌+◌, ◌∙◌, Bool, true, false, List, [], ◌∷◌, ◌++◌, refl, ap, sym}
 use Rattle.std.specs.Prelude.{◌%◌, ◌==◌}
-use Rattle.std.proofs.Math.Path.{fun_ext}
 use Rattle.rv_model.specs.Memory.{Memory}
 use Rattle.program_model.specs.Descriptors.{Descriptors, EINVAL}
-use Rattle.program_model.specs.Calls.{Named, name_from, not_empty, open_named, open_plan, CallKind, Open, OpenAt, Close, Seek, ReadFile, WriteFile, ExitProgram, Break, Unknown, Set, plan_by, call_plan, kind_of}
+use Rattle.program_model.specs.Calls.{Named, name_from, not_empty, open_named, open_plan, CallKind, Open, OpenAt, Close, Seek, ReadFile, WriteFile, ExitProgram, Break, Unknown, Set, plan_by}
 use Rattle.file_calls.proofs.DataLemmas.{after_byte, name_from-suc, name_from-fault}
 
 module _ (d : ℕ → Bool) (m m' : Memory) (same : (a : ℕ) → d a ≡ true → m a ≡ m' a) where
@@ -41,10 +40,3 @@ module _ (d : ℕ → Bool) (m m' : Memory) (same : (a : ℕ) → d a ≡ true �
   plan_by-agrees f ExitProgram x10 x11 x12 = refl
   plan_by-agrees f Break x10 x11 x12 = refl
   plan_by-agrees f Unknown x10 x11 x12 = refl
-
--- two memories with the same data, and the same bytes there, give each call the same plan
-pub call_plan-agrees : (d d' : ℕ → Bool) (m m' : Memory) → ((a : ℕ) → d a ≡ d' a) → ((a : ℕ) → d a ≡ true → m a ≡ m' a)
-    → (f : Descriptors) (number x10 x11 x12 : ℕ) → call_plan d m f number x10 x11 x12 ≡ call_plan d' m' f number x10 x11 x12
-call_plan-agrees d d' m m' same_data same f number x10 x11 x12 =
-    plan_by-agrees d m m' same f (kind_of number) x10 x11 x12
-    ∙ ap (λ (t : ℕ → Bool). call_plan t m' f number x10 x11 x12) (fun_ext same_data)

@@ -3,7 +3,7 @@ use Rattle.std.specs.Prelude.{ℕ, ◌-◌, ◌^◌, ◌<◌, ◌≤◌, Bool, t
 use Rattle.spec_base.specs.Files.{Name}
 use Rattle.spec_base.specs.declared.spot.ReadSpot.{ReadSpot}
 use Rattle.rv_model.specs.Memory.{all_from}
-use Rattle.program_model.specs.Descriptors.{Descriptor, File, Descriptors, slot, with_slot, EINVAL}
+use Rattle.program_model.specs.Descriptors.{Descriptor, File, Descriptors, slot, with_slot}
 use Rattle.program_model.specs.Calls as calls
 use Rattle.program_model.specs.Calls.{CallKind, OpenAt, Seek, ReadFile, WriteFile, ExitProgram, Break, Unknown, Look, Set}
 use Rattle.file_calls.specs.declared.call.Call.{Call}
@@ -79,11 +79,6 @@ offset_if false n = None
 abbrev pub offset_at : ℤ → Option ℕ
 offset_at (pos n) = offset_if (nat_lt n (2 ^ 56)) n
 offset_at (negsuc n) = None
-
--- a seek to an offset, or one that is refused
-abbrev pub seek_shown : Descriptors → ℕ → Name → ℕ → Option ℕ → calls.CallPlan
-seek_shown f d name size (Some n) = Set (with_slot f d (File name size n)) (pos n)
-seek_shown f d name size None = Set f EINVAL
 
 -- how many bytes of a file are left from its offset on
 abbrev pub left : Descriptor → ℕ

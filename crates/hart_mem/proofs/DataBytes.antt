@@ -1,5 +1,5 @@
 -- Stretches of data of a memory: whether all of one is data, and its bytes.
-use Rattle.std.proofs.Common.{◌≡◌, ℕ, zero, suc, ◌+◌, ◌-◌, ◌*◌, ◌^◌, ◌≤◌, ◌<◌, Bool, true, false, not, ◌&&◌, ◌||◌, nat_le, nat_lt, IsTrue, List, [], ◌∷◌, length, take, drop, Some, None, refl, ap, sym, arith, subst, inl, inr, ◌⊎◌, lit≤, ◌∙◌, length-drop}
+use Rattle.std.proofs.Common.{◌≡◌, ℕ, ◌+◌, ◌-◌, ◌*◌, ◌^◌, ◌≤◌, ◌<◌, Bool, true, false, not, ◌&&◌, ◌||◌, nat_le, nat_lt, IsTrue, List, [], ◌∷◌, length, take, drop, Some, None, refl, ap, sym, arith, subst, inl, inr, ◌⊎◌, lit≤, ◌∙◌, length-drop}
 use Rattle.std.specs.Prelude.{is_some, unwrap_or}
 use Rattle.std.proofs.lemmas.Bool.{cases_lt}
 use Rattle.std.proofs.lemmas.Bool.Decides.{nat_tests}
@@ -75,20 +75,6 @@ off false x e = refl
 pub zero_off_data : (h : Held) (a : ℕ) → is_data (space_of h).layout a ≡ false → (space_of h).program a ≡ 0
 unfolding space_of part
 zero_off_data h a e = off (is_data h.layout a) _ e
-
--- n bytes that are data end at 2^64 at most
-pub data_room : (sp : Space) (a n : ℕ) → all_from (data_in (data_byte sp)) a n ≡ true → a + n ≤ 2 ^ 64 ⊎ (n ≡ 0)
-unfolding all_from
-data_room sp a zero h = inr refl
-data_room sp a (suc n) h =
-    let parts = both (data_in (data_byte sp) a) (all_from (data_in (data_byte sp)) (a + 1) n) h in
-    let here : is_data sp.layout a ≡ true = subst (λ t. t a ≡ true) (data-is sp) parts.0 in
-    let low = data_below sp.layout a here in
-    elim (data_room sp (a + 1) n parts.1) [ inl rest ↦ inl (omega arith) | inr none ↦ inl (omega arith) ]
-
--- some bytes that are data
-pub write_room : (h : Held) (a n : ℕ) → IsTrue (all_from (data_in (data_byte (space_of h))) a n) → 0 < n → a + n ≤ 2 ^ 64
-write_room h a n on some = elim (data_room (space_of h) a n on) [ inl room ↦ room | inr none ↦ absurd (omega (arith, none, some)) ]
 
 -- ---- whether all of a stretch is data
 

@@ -22,10 +22,6 @@ pub table-pages : (v : Version) → range_end v / 64 % 4096 ≡ 0
 table-pages One = refl
 table-pages Two = refl
 
-pub range_end-above : (v : Version) → 0x1000_0000 ≤ range_end v
-range_end-above One = omega arith
-range_end-above Two = omega arith
-
 pub range_end-below : (v : Version) → range_end v ≤ 0x4000_0000
 range_end-below One = omega arith
 range_end-below Two = omega arith

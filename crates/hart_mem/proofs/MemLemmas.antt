@@ -78,15 +78,6 @@ fill_uses h q a n (Err e) takes same enough = UsesSpare-same h (record h { pages
 
 -- ---- a memory whose pages have taken frames
 
-pub IsWhole-takes : (h : Held) → IsWhole h → (q : Paged) (first end : ℕ) → TakesPages h.pages q first end → IsWhole (record h { pages = q })
-IsWhole-takes h whole q first end takes =
-    record {
-      lawful = whole.lawful;
-      words = whole.words;
-      count = takes.length ∙ whole.count;
-      held = λ page low high. TakesPages-keeps h.pages q first end page takes (whole.held page low high);
-    }
-
 -- ---- emitted code
 
 pub coded_space : (h : Held) (s k b : List ℕ) → 1 ≤ length s → 1 ≤ length k → 1 ≤ length b → space_of (record h { shadow = s; helpers = k; stub = b }) ≡ record (space_of h) { shadow = s; helpers = k; stub = b }

@@ -181,9 +181,6 @@ lacking_one p page held inside e =
 pub lacking-free : (p : Paged) (page : ℕ) → page < length p.table → is_held p page ≡ false → lacking p page (page + 1) ≡ 1
 lacking-free p page inside e = lacking_one p page false inside e
 
-pub lacking-had : (p : Paged) (page : ℕ) → page < length p.table → is_held p page ≡ true → lacking p page (page + 1) ≡ 0
-lacking-had p page inside e = lacking_one p page true inside e
-
 -- a page has a frame or none
 both_counts : (xs : List (Option ℕ)) → count_by is_none xs + count_by is_some xs ≡ length xs
 both_counts [] = refl
@@ -317,19 +314,6 @@ module _ (p : Paged) (sound : IsSound p) (new : Frames) (page k : ℕ) (inside :
       }
 
 -- ---- pages that take frames
-
--- no frame is taken where a page has one
-pub TakesPages-had : (p : Paged) (page : ℕ) → page < length p.table → is_held p page ≡ true → TakesPages p p page (page + 1)
-TakesPages-had p page inside had =
-    record {
-      length = refl;
-      held = λ i. elim (cases_eq i page) [
-        | inl here ↦ (let same : is_held p i ≡ true = ap (is_held p) here ∙ had in rw same refl)
-        | inr apart ↦ grind (arith, nat_tests)
-      ];
-      spare = omega (arith, lacking-had p page inside had);
-      frames = omega (arith, lacking-had p page inside had);
-    }
 
 -- nor where no page is named
 pub TakesPages-none : (p : Paged) (page : ℕ) → TakesPages p p page page

@@ -212,12 +212,6 @@ shadow_low l b ok low = grind (arith, nat_tests)
 
 -- ---- accesses past the text or before it
 
-pub off_after : (l : Layout) (a n : ℕ) → l.text_end ≤ a → IsOffText l a n
-off_after l a n h i k = grind (arith, nat_tests)
-
-pub off_before : (l : Layout) (a n : ℕ) → a + (n - 1) < l.text_start → IsOffText l a n
-off_before l a n h i k = grind (arith, nat_tests)
-
 -- ---- stores
 
 module _ (h : Held) (lawful : IsLawful h.layout) (m : Memory) (a n x : ℕ) (eight : a % 8 + n ≤ 8) (some : 1 ≤ n) where

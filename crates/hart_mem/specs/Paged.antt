@@ -49,9 +49,6 @@ is_between first end page = nat_le first page && nat_lt page end
 abbrev pub end_page : ℕ → ℕ → ℕ
 end_page place n = (place + n + 4095) / 4096
 
-abbrev pub pages_touched : ℕ → ℕ → ℕ
-pages_touched place n = end_page place n - place / 4096
-
 -- no page has a frame
 pub record IsEmpty (p : Paged) (pages most : ℕ) : Type 0 where
   pub length : length p.table ≡ pages

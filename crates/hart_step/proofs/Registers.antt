@@ -5,7 +5,7 @@ use Rattle.std.proofs.lemmas.Bool.{cases_eq, cases_lt}
 use Rattle.std.proofs.lemmas.Bool.Decides.{nat_tests}
 use Rattle.std.proofs.Math.Path.{fun_ext}
 use Rattle.std.proofs.Math.ListN.{replicate}
-use Rattle.rv_model.specs.Registers.{Registers, all_zero, reg, with_reg}
+use Rattle.rv_model.specs.Registers.{all_zero, reg, with_reg}
 use Rattle.hart_step.specs.Core.{registers_of}
 
 -- x0 reads as 0, as the list has it
@@ -13,16 +13,6 @@ pub reg_of : (rs : List ℕ) (n : ℕ) → slice_index rs 0 ≡ 0 → slice_inde
 unfolding registers_of
 reg_of rs zero h = h
 reg_of rs (suc n) h = refl
-
--- a register is written
-pub registers_set : (rs : List ℕ) (n v : ℕ) → n ≢ 0 → n < length rs → registers_of (set rs n v) ≡ with_reg (registers_of rs) n v
-unfolding registers_of
-registers_set rs zero v h l = absurd (h refl)
-registers_set rs (suc n) v h l = fun_ext (λ k.
-    elim (cases_eq k (suc n)) [
-      | inl p ↦ (let s : get_or (set rs (suc n) v) k 0 ≡ v = rw p (get_or-set_same rs (suc n) v 0 l) in grind (arith, nat_tests))
-      | inr p ↦ (let s : get_or (set rs (suc n) v) k 0 ≡ get_or rs k 0 = get_or-set_other rs (suc n) k v 0 p in grind (arith, nat_tests))
-    ])
 
 -- a register is written, and then x0 is 0 again
 pub registers_reset : (rs : List ℕ) (n v : ℕ) → slice_index rs 0 ≡ 0 → n < length rs → registers_of (set (set rs n v) 0 0) ≡ with_reg (registers_of rs) n v
@@ -41,11 +31,6 @@ registers_reset rs (suc n) v z l = fun_ext (λ k.
             | inr q ↦ (let s : get_or (set rs (suc n) v) k 0 ≡ get_or rs k 0 = get_or-set_other rs (suc n) k v 0 q in grind (arith, nat_tests))
           ])
     ])
-
--- x0 isn't written
-pub with_x0 : (rs : Registers) (n v : ℕ) → n ≡ 0 → rs ≡ with_reg rs n v
-with_x0 rs zero v h = refl
-with_x0 rs (suc n) v h = absurd (omega arith)
 
 zero_anywhere : (n k : ℕ) → get_or (replicate {A = ℕ} n 0) k 0 ≡ 0
 zero_anywhere n k = elim (cases_lt k n) [

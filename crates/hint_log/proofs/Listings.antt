@@ -3,24 +3,12 @@ use Rattle.std.proofs.Common.{◌≡◌, ℕ, zero, suc, ◌+◌, ◌-◌, ◌*�
 use Rattle.std.specs.List.{All}
 use Rattle.rv_decode.specs.Encoding.{IsEncodable}
 use Rattle.code_model.specs.Assembly.{ld, sd}
-use Rattle.code_model.specs.Helpers.{append_words, box_loads, unbox_words}
-use Rattle.code_model.specs.Stub.{check_words, empty_words, box_stores, box_words}
+use Rattle.code_model.specs.Helpers.{box_loads}
+use Rattle.code_model.specs.Stub.{check_words, box_stores}
 use Rattle.assembler.proofs.Encodable.{all-encodable}
-
-pub append-encodable : All IsEncodable append_words
-append-encodable = all-encodable append_words refl
 
 pub check-encodable : All IsEncodable check_words
 check-encodable = all-encodable check_words refl
-
-pub empty-encodable : All IsEncodable empty_words
-empty-encodable = all-encodable empty_words refl
-
-pub box-encodable : All IsEncodable box_words
-box-encodable = all-encodable box_words refl
-
-pub unbox-encodable : All IsEncodable unbox_words
-unbox-encodable = all-encodable unbox_words refl
 
 -- the stores of some registers, and then those of the next
 pub box_stores-split : (i n m k j : ℕ) → n + m ≡ k → i + n ≡ j → box_stores i k ≡ box_stores i n ++ box_stores j m

@@ -1,7 +1,7 @@
 -- The arguments, one after the other.
 use Rattle.std.proofs.Common.{◌≡◌, ℕ, suc, ◌+◌, ◌*◌, ◌<◌, ◌≤◌, List, [], ◌∷◌, ◌++◌, length, get_or, drop, map, String, Global, string_bytes, refl, sym, ap, ◌∙◌, arith}
 use Rattle.std.specs.List.{sum_by}
-use Rattle.std.proofs.lemmas.List.{append_assoc, append-nil, drop_more, get_or-map, length-map, length-append}
+use Rattle.std.proofs.lemmas.List.{append_assoc, drop_more, get_or-map, length-map, length-append}
 use Rattle.std.proofs.lemmas.List.Sums.{sum_by-cons}
 use Rattle.std.proofs.Math.ListN.{drop_of_length-le}
 use Rattle.spec_base.specs.Word.{bytes_of}
@@ -46,10 +46,6 @@ at-more args i at end a lt same e =
     let left = ap (λ rest. length (argument_bytes rest)) (left-is args i a lt same) in
     let both = length-append a (0 ∷ argument_bytes (drop (i + 1) args)) in
     omega (arith, left, both, e)
-
--- where no argument is left
-pub all-done : (items rest whole : List ℕ) → rest ≡ [] → items ++ rest ≡ whole → items ≡ whole
-all-done items rest whole none e = sym (append-nil items) ∙ (ap (λ r. items ++ r) (sym none) ∙ e)
 
 -- ---- counts
 

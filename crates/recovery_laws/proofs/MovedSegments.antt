@@ -81,12 +81,6 @@ moved-text (s ∷ ss) cursor t =
 
 -- ---- how far they reach
 
--- segments in order need at most their addresses, and a page for each
-ordered-first : (s t : Segment) (ss : List Segment) → list_any (λ u. nat_lt u.address (end_of s)) (t ∷ ss) ≡ false → end_of s ≤ t.address
-ordered-first s t ss h =
-    let here : nat_lt t.address (end_of s) ≡ false = (or-false-both _ _ h).0 in
-    grind (arith, nat_tests)
-
 end-of-part-near : (cursor : ℕ) (s : Segment) → end_of_part cursor (segment_part s) ≤ cursor + 4095 + s.length
 end-of-part-near cursor s = (let offset = file_offset-near cursor s.address in grind (arith, nat_tests))
 

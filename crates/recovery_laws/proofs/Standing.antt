@@ -29,10 +29,6 @@ StandsAt-back o n a b file long h =
     ∙ ap (λ k. drop n (take k (drop o file))) (sym all)
     ∙ ap (drop n) h ∙ drop_at a b n long
 
--- at the same place
-pub StandsAt-same : (o p : ℕ) (content file : List ℕ) → o ≡ p → StandsAt o content file → StandsAt p content file
-StandsAt-same o p content file e h = ap (λ k. take (length content) (drop k file)) (sym e) ∙ h
-
 -- it ends inside the file
 pub StandsAt-inside : (o : ℕ) (content file : List ℕ) → 0 < length content → StandsAt o content file → o + length content ≤ length file
 StandsAt-inside o content file some h =

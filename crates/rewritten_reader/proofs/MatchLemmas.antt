@@ -33,19 +33,6 @@ takes-more file at k bytes None faults v same none agree =
     subst (λ (u : MatchState). told_of_match (record { file = file; at = at + k; other = None; faults = faults }) ≡ took (told_of_match u) bytes k) same
     (λ i. record { bytes = Some (whole i); puts = None; numbers = None; room = room i; faults = faults; fixed = file })
 
--- and so does the first byte that doesn't
-pub takes-other : (file : List ℕ) (at x : ℕ) (bytes : List ℕ) (other : Option ℕ) (faults : ℕ) (v : MatchState)
-    → record { file = file; at = at; other = other; faults = faults } ≡ v → false ≡ is_some other
-    → take 1 bytes ≡ x ∷ []
-    → told_of_match (record { file = file; at = at; other = Some x; faults = faults }) ≡ took (told_of_match v) bytes 1
-takes-other file at x bytes (Some y) faults v same none first = absurd cc
-takes-other file at x bytes None faults v same none first =
-    let whole : take at file ++ x ∷ [] ≡ (take at file ++ []) ++ take 1 bytes =
-    ap (λ w. w ++ x ∷ []) (sym (append-nil (take at file))) ∙ ap (λ w. (take at file ++ []) ++ w) (sym first) in
-    let room = no-room 1 in
-    subst (λ (u : MatchState). told_of_match (record { file = file; at = at; other = Some x; faults = faults }) ≡ took (told_of_match u) bytes 1) same
-    (λ i. record { bytes = Some (whole i); puts = None; numbers = None; room = room i; faults = faults; fixed = file })
-
 -- ---- what it shows at the end
 
 pub same-test : (n : ℕ) → (n == n) ≡ true

@@ -1,8 +1,7 @@
 -- The first state of a run, from the parts of its program that were loaded.
-use Rattle.std.proofs.Common.{◌≡◌, ℕ, ◌-◌, ◌*◌, List, length, map, IsTrue, refl, sym, ap, subst, ◌∙◌}
+use Rattle.std.proofs.Common.{◌≡◌, ℕ, ◌-◌, ◌*◌, List, length, map, refl, sym, ap, subst, ◌∙◌}
 use Rattle.std.proofs.lemmas.List.{length-map}
 use Rattle.spec_base.specs.Files.{Files}
-use Rattle.spec_base.specs.Layout.{is_lawful}
 use Rattle.rv_model.specs.Memory.{zeros}
 use Rattle.program_model.specs.Loading.{start_memory}
 use Rattle.run_model.specs.Run.{World, opened_run}
@@ -14,7 +13,7 @@ use Rattle.elf_writer.specs.declared.source.Parts.{Parts}
 use Rattle.elf_writer.specs.ProgramCode.{code_of_text, ungated_word}
 use Rattle.elf_writer.specs.RewrittenFile.{Code, IsCodeOf}
 use Rattle.elf_writer.specs.Writing.{listed}
-use Rattle.elf_writer.proofs.Rewritable.{IsRewritable-image, code_of_text-IsCodeOf, text_words-length}
+use Rattle.elf_writer.proofs.Rewritable.{code_of_text-IsCodeOf, text_words-length}
 use Rattle.rewriter.proofs.TextLemmas.{text_words-whole}
 use Rattle.file_world.specs.Promises.{world_again}
 use Rattle.file_world.proofs.Disk.{HoldsCode, holds-same}
@@ -27,10 +26,6 @@ use Rattle.run_loader.specs.Opening.{ShowsFirst, OpensRecovered}
 -- the code of parts is that of the text that their image has in a rewritten file
 abbrev pub IsCodeAgain : List ℕ → Parts → Type 0
 IsCodeAgain bytes parts = listed parts ≡ code_of_text parts.layout (map ungated_word (text_words bytes parts.image))
-
-pub lawful-again : (bytes : List ℕ) (parts : Parts) → IsRecovered bytes (carried_in parts) → IsTrue (is_lawful parts.layout)
-lawful-again bytes parts h =
-    (IsRewritable-image bytes parts.image parts.layout h.image h.text_start h.text_end h.some_regions h.few_regions).lawful
 
 pub code-again : (bytes : List ℕ) (parts : Parts) → IsRecovered bytes (carried_in parts) → IsCodeAgain bytes parts → IsCodeOf parts.layout (listed parts)
 code-again bytes parts h code =

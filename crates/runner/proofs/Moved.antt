@@ -38,10 +38,6 @@ cache-at_rest w o q cache held staged h rest e f =
       gathers = inl (record { none = e ∙ rest.none; goes = f ∙ rest.goes; undemanded = rest.undemanded });
     }
 
--- an equal runner
-pub runner-as : (v u : Runner) (w : World) (r : Run) → v ≡ u → Shows u w r → Shows v w r
-runner-as v u w r e h = subst (λ (v : Runner). Shows v w r) (sym e) h
-
 -- what it has, once the run has ended in a move in which it waits for nothing, or before
 pub gathers-ended : (w : World) (r q : Run) (cache : Cache) (staged : List ℕ) → r.end ≡ None → own_side q ≡ record (own_side r) { end = q.end } → Gathers w (own_side r) cache staged → Gathers w (own_side q) cache staged
 gathers-ended w r q cache staged goes same g = subst (λ (o : OwnSide). Gathers w o cache staged) (sym same) (by g)

@@ -21,22 +21,6 @@ nowhere g k x e f = let bad : Some x ≡ None = sym e ∙ f in cc
 
 -- ---- what reaches an address
 
--- all ranges but the latest end before it begins
-pub ends_before : (g : ℕ → Option ℕ) (here first last least : ℕ) → IsKept g → IsBefore g here first last → last < least → (q end : ℕ) → g q ≡ Some end → q ≤ here → end < least
-ends_before g here first last least kept b short q end e up =
-    elim (cases_eq q first) [
-      | inl same ↦ let f : g first ≡ Some end = ap g (sym same) ∙ e in omega (arith, one_last g first end last f b.found)
-      | inr ne ↦ let le = b.latest q end e up in omega (arith, kept.apart q end first last e b.found (omega (arith, ne)), kept.forward first last b.found)
-    ]
-
--- the same where apart is known up to here
-pub ends_up_to : (g : ℕ → Option ℕ) (here first last : ℕ) → ((q end next to : ℕ) → g q ≡ Some end → g next ≡ Some to → q < next → next ≤ here → end < next) → IsBefore g here first last → last ≤ here → (q end : ℕ) → g q ≡ Some end → q ≤ here → end ≤ here
-ends_up_to g here first last apart b short q end e up =
-    elim (cases_eq q first) [
-      | inl same ↦ let f : g first ≡ Some end = ap g (sym same) ∙ e in omega (arith, one_last g first end last f b.found)
-      | inr ne ↦ let le = b.latest q end e up in omega (arith, apart q end first last e b.found (omega (arith, ne)) b.up_to, b.up_to)
-    ]
-
 -- ---- one range takes in others
 
 pub absorbing-start : (g : ℕ → Option ℕ) (first last : ℕ) → IsReady g first last → IsAbsorbing g g first last last
@@ -259,32 +243,6 @@ module _ (g h : ℕ → Option ℕ) (first last : ℕ) (kept : IsKept g) (none :
 
 -- ---- a range is taken away
 
-pub split-none : (g : ℕ → Option ℕ) (last : ℕ) → ((q end : ℕ) → g q ≡ Some end → q ≤ last → end ≤ last) → IsSplit g g last
-split-none g last none = record {
-  same = λ q ne. refl;
-  kept = λ end e. e;
-  split = λ q end e up past. let le = none q end e up in absurd (omega arith);
-  back = λ end e. inl e;
-}
-
-pub split-one : (g h : ℕ → Option ℕ) (last first to : ℕ) → IsKept g → IsBefore g last first to → last < to → h (last + 1) ≡ Some to → ((q : ℕ) → q ≢ last + 1 → h q ≡ g q) → IsSplit g h last
-split-one g h last first to kept b past here others = record {
-  same = others;
-  kept = λ end e. let less = b.up_to in let bad = kept.apart first to (last + 1) end b.found e (omega arith) in absurd (omega arith);
-  split = λ q end e up far.
-      elim (cases_eq q first) [
-        | inl same ↦ let f : g first ≡ Some end = ap g (sym same) ∙ e in here ∙ ap Some (one_last g first to end b.found f)
-        | inr ne ↦
-            let le = b.latest q end e up in
-            let less = b.up_to in
-            let bad = kept.apart q end first to e b.found (omega (arith, ne)) in
-            absurd (omega arith)
-      ];
-  back = λ end e.
-      let same = one_last h (last + 1) to end here e in
-      inr (first, b.found ∙ ap Some same, b.up_to, omega arith);
-}
-
 -- no range there
 pub none_there : (m : ℕ → Option ℕ) (q : ℕ) → ((l : ℕ) → m q ≡ Some l → ⊥) → m q ≡ None
 none_there m q never = by_value (m q) refl
@@ -292,44 +250,6 @@ none_there m q never = by_value (m q) refl
     by_value : (o : Option ℕ) → m q ≡ o → m q ≡ None
     by_value (Some l) e = absurd (never l e)
     by_value None e = e
-
-pub cut-none : (g : ℕ → Option ℕ) (first : ℕ) → ((q end : ℕ) → g q ≡ Some end → q < first → end < first) → IsCut g g first
-cut-none g first none = record {
-  above = λ q le. refl;
-  short = λ q end e less. e;
-  cut = λ q end less e past. let p = none q end e less in absurd (omega arith);
-  back = λ q end less e. (none q end e less, (end, e, omega arith, inl refl));
-}
-
-pub cut-one : (g h : ℕ → Option ℕ) (first from to : ℕ) → 0 < first → ((q end next to : ℕ) → g q ≡ Some end → g next ≡ Some to → q < next → next < first → end < next) → IsBefore g (first - 1) from to → first - 1 < to → h from ≡ Some (first - 1) → ((q : ℕ) → q ≢ from → h q ≡ g q) → IsCut g h first
-cut-one g h first from to some apart b past here others = record {
-  above = λ q le. others q (λ e. omega (arith, b.up_to));
-  short = λ q end e less.
-      others q (λ same. let f : g from ≡ Some end = ap g (sym same) ∙ e in let p = one_last g from end to f b.found in omega arith) ∙ e;
-  cut = λ q end less e far.
-      elim (cases_eq q from) [
-        | inl same ↦ ap h same ∙ here
-        | inr ne ↦ absurd (let p = earlier q end less ne e in let u = b.up_to in omega arith)
-      ];
-  back = λ q end less e.
-      elim (cases_eq q from) [
-        | inl same ↦
-            let f : h from ≡ Some end = ap h (sym same) ∙ e in
-            let p = one_last h from end (first - 1) f here in
-            (omega arith, (to, ap g same ∙ b.found, omega arith, inr (omega arith)))
-        | inr ne ↦
-            let was : g q ≡ Some end = sym (others q ne) ∙ e in
-            let p = earlier q end less ne was in
-            let u = b.up_to in
-            (omega arith, (end, was, omega arith, inl refl))
-      ];
-}
-  where
-    earlier : (q end : ℕ) → q < first → q ≢ from → g q ≡ Some end → end < from
-    earlier q end less ne e =
-        let le = b.latest q end e (omega arith) in
-        let u = b.up_to in
-        apart q end from to e b.found (omega (arith, ne)) (omega arith)
 
 -- from which range what is left comes
 data Source (g : ℕ → Option ℕ) (first last q l : ℕ) : Type 0 where
