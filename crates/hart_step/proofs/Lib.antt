@@ -3,5 +3,4 @@ mod Spares
 mod Starved
 mod Stores
 mod Views
-pub mod ShadowViews
 mod Strides
