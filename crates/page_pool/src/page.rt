@@ -69,6 +69,7 @@ impl Page {
     }
 
     /// Writes bytes over those from `at` on.
+    #[inline(always)]
     pub fn write(&mut self, at: usize, bytes: &[u8])
         requires { at + length bytes.now ≤ 4096 }
         ensures { self.new ≡ overwritten self.old at bytes.now }

@@ -48,7 +48,7 @@ impl Pages {
     }
 
     /// The bytes of the page at a place.
-    #[inline]
+    #[inline(always)]
     pub fn bytes(&self, at: usize) -> &[u8]
         ensures value { result.now ≡ page_in self.now.pages at }
         ensures len { length result.now ≡ 4096 }
@@ -98,7 +98,7 @@ impl Pages {
     }
 
     /// Writes bytes over those of the page at a place, from `from` on.
-    #[inline]
+    #[inline(always)]
     pub fn write(&mut self, at: usize, from: usize, bytes: &[u8])
         requires place { at < self.old.room }
         requires fits { from + length bytes.now ≤ 4096 }

@@ -187,6 +187,7 @@ impl Pool {
     }
 
     /// Writes bytes over those of a frame from `at` on.
+    #[inline(always)]
     pub fn write(&mut self, frame: &Frame, at: usize, bytes: &[u8])
         requires in_use { IsInUse self.old frame.now }
         requires fits { at + length bytes.now ≤ 4096 }
