@@ -44,15 +44,18 @@ use Rattle.trace_replay.specs.declared.totals.Totals.{Totals}
 use Rattle.fetch_plan.specs.Needs.{needed_blocks}
 use Rattle.fetch_plan.specs.Traces.{needs_by, HasLeast}
 use Rattle.fetch_plan.specs.declared.traces.PlanTotals.{PlanTotals}
-use Rattle.spechint_commands.specs.Texts.{text_of}
-use Rattle.spechint_commands.specs.Lines.{replay_line, plan_line}
-use Rattle.spechint_commands.specs.Run.{asked_file, Going, Ran, ImageTo, RunGoes, TraceGoes, RunTo, TraceTo}
-use Rattle.spechint_commands.specs.Common.{Silent, Stopped, EndingStatus, ReadsFile, image_name, PutsLine}
-use Rattle.spechint_commands.specs.Demo.{DemoTo}
-use Rattle.spechint_commands.specs.Top.{Runs, Accepted, PlainTo, Rewrites, RewriteTo, settings_of, ReplayTo, PlanTo, CommandTo, IsOutcome}
+use Rattle.command_status.specs.Texts.{text_of}
+use Rattle.file_commands.specs.Lines.{replay_line, plan_line}
+use Rattle.run_commands.specs.Run.{asked_file, Going, Ran, ImageTo, RunGoes, TraceGoes, RunTo, TraceTo}
+use Rattle.command_status.specs.Common.{Silent, Stopped, EndingStatus, ReadsFile, image_name, PutsLine}
+use Rattle.run_commands.specs.Demo.{DemoTo}
+use Rattle.file_commands.specs.Plain.{Runs, Accepted, PlainTo}
+use Rattle.file_commands.specs.Rewrite.{Rewrites, RewriteTo}
+use Rattle.file_commands.specs.Traces.{settings_of, ReplayTo, PlanTo}
+use Rattle.spechint_commands.specs.Top.{CommandTo, IsOutcome}
 use Rattle.spechint_commands.specs.Defined.{EndsAs, IsPlainRun, IsEnd, IsDefinedRun, IsDefinedTrace, ByOpened, ByBytes, ByProfile, BySize, ByFile, ByReplayed, ByNeeds, ByPlanned, ByTrace, ByTraceSize, ByTraceFile, ByCommand, ByRequest, IsDefined, IsSteady}
-use Rattle.spechint_commands.specs.declared.status.Status.{Status}
-use Rattle.spechint_commands.specs.declared.status.Status.TheVariants.{Done, Exited, Trapped, TurnsOver, Usage, Absent, Refused, BadLine, TooMany, StoreFault, SinkFault, NoMemory}
+use Rattle.command_status.specs.declared.status.Status.{Status}
+use Rattle.command_status.specs.declared.status.Status.TheVariants.{Done, Exited, Trapped, TurnsOver, Usage, Absent, Refused, BadLine, TooMany, StoreFault, SinkFault, NoMemory}
 use Rattle.runner.specs.Causes.{SinkRose}
 use Rattle.spechint_commands.proofs.AsPlain.{as_plain-store}
 use Rattle.spechint_commands.proofs.Causes.{ByMemory, failed_read, failed_run, put_failed, image_store_fault, ran-SinkRose}

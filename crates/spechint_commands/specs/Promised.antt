@@ -20,11 +20,11 @@ use Rattle.command_words.specs.CommandLine.{command_of}
 use Rattle.command_words.specs.declared.command.Command.{Command}
 use Rattle.command_words.specs.declared.command.Command.TheVariants.{Run, Trace}
 use Rattle.command_words.specs.declared.request.Request.{Request}
-use Rattle.spechint_commands.specs.Common.{EndingStatus, image_name}
-use Rattle.spechint_commands.specs.Run.{asked_file}
-use Rattle.spechint_commands.specs.Top.{Tells}
-use Rattle.spechint_commands.specs.declared.status.Status.{Status}
-use Rattle.spechint_commands.specs.declared.status.Status.TheVariants.{Done, Exited, Trapped, TurnsOver, Usage, Absent, Refused, BadLine, TooMany, StoreFault, SinkFault, NoMemory}
+use Rattle.command_status.specs.Common.{EndingStatus, image_name}
+use Rattle.run_commands.specs.Run.{asked_file}
+use Rattle.command_status.specs.Texts.{Tells}
+use Rattle.command_status.specs.declared.status.Status.{Status}
+use Rattle.command_status.specs.declared.status.Status.TheVariants.{Done, Exited, Trapped, TurnsOver, Usage, Absent, Refused, BadLine, TooMany, StoreFault, SinkFault, NoMemory}
 
 -- moves of a file's world, over these files, came to an end. Standard error has what the program put, behind it the report's line where it was asked for, and then the text of the status
 pub record IsKept (r : Request) (bytes file : List ℕ) (moves : Moves) (files : Files) (status : Status) (old new : Outside) : Type 0 where
