@@ -1,5 +1,5 @@
 -- What a run and a status say together, and what a command line's request has.
-use Rattle.std.proofs.Common.{◌≡◌, ◌⊎◌, inl, inr, ℕ, List, sym, subst, Ok, Err}
+use Rattle.std.proofs.Common.{◌≡◌, inl, inr, ℕ, List, sym, subst, Ok, Err}
 use Rattle.world_io.specs.Outside.{StoreState}
 use Rattle.whole_file.specs.Reading.{ReadsWhole}
 use Rattle.elf_image.specs.declared.image.Image.{Image}

@@ -1,31 +1,25 @@
 -- What the parts of the command `demo` say together.
-use Rattle.std.proofs.Common.{◌≡◌, ℕ, ◌+◌, ◌<◌, ◌^◌, ◌==◌, Bool, true, false, List, [], ◌∷◌, ◌++◌, length, codes, Option, Some, None, Ok, refl, ap, sym, ◌∙◌, subst, arith, if◌then◌else◌}
+use Rattle.std.proofs.Common.{◌≡◌, ℕ, ◌<◌, ◌^◌, ◌==◌, Bool, true, false, List, [], ◌∷◌, ◌++◌, length, codes, Some, None, Ok, refl, ap, sym, ◌∙◌, subst, arith, if◌then◌else◌}
 use Rattle.std.proofs.lemmas.List.{append_assoc}
 use Rattle.std.specs.Cmp.Lexicographic.{pointwise}
-use Rattle.spec_base.specs.Files.{Files, Name}
-use Rattle.spec_base.specs.declared.layout.Version.{Version}
 use Rattle.world_io.specs.Outside.{StoreState, SinkState, no_files, with_file}
 use Rattle.world_io.specs.Buffers.{BufSinkState, told_of_buf}
 use Rattle.trace_text.specs.declared.reporting.Counts.{Counts}
-use Rattle.elf_image.specs.declared.image.Image.{Image}
-use Rattle.elf_image.specs.Profile.{profile}
-use Rattle.rewriter.specs.Layouts.{rewritten}
 use Rattle.sample_images.specs.Demos.{demo_image, data_bytes}
 use Rattle.sample_images.proofs.Data.{data_bytes-length, data_bytes-small}
-use Rattle.run_model.specs.Run.{World, Run, opened_run}
+use Rattle.run_model.specs.Run.{World, Run}
 use Rattle.run_model.specs.Moves.{run}
 use Rattle.run_laws.specs.OwnLaws.{AllBytes}
 use Rattle.plain_runner.specs.Runs.{Outside}
 use Rattle.plain_runner.specs.declared.ending.Ending.{Ending}
 use Rattle.run_promises.specs.Schedules.{MovesTo}
 use Rattle.file_world.specs.Worlds.{AreFiles}
-use Rattle.file_runs.specs.Runs.{run_file_by}
 use Rattle.runner.specs.Shows.{Shows}
 use Rattle.runner.specs.declared.runner.Runner.{Runner}
 use Rattle.program_driver.specs.Runs.{Drives, counts_of}
 use Rattle.command_words.specs.declared.request.Request.{Request}
 use Rattle.run_commands.specs.Run.{asked_file}
-use Rattle.run_commands.specs.Opens.{HoldsRewritten, StandsBefore}
+use Rattle.run_commands.specs.Opens.{StandsBefore}
 use Rattle.run_commands.specs.Demo.{demo_files, demo_world, demo_outside, demo_line, has_ended, IsDemoLine}
 use Rattle.run_commands.proofs.Running.{opened-now}
 
@@ -62,30 +56,25 @@ joined a b c d e f g h i j =
     ap (λ x. x ++ (g ++ h)) six ∙ sym (append_assoc (a ++ b ++ c ++ d ++ e ++ f) g h) in
     ap (λ x. x ++ i ++ j) eight
 
--- the rewritten file of the program is what a request executes
-asked : (r : Request) (sink : BufSinkState) → HoldsRewritten (demo_image r.number) r.options.regions r.options.layout (Ok sink) → asked_file r (demo_image r.number) ≡ Ok sink.bytes
-asked r sink (image, accepted, held) =
-    ap (λ p. run_file_by p r.options.regions r.options.layout (demo_image r.number)) accepted ∙ ap (λ file. Ok file) (sym held)
-
 -- a store and two sinks that are these
 pub outside-same : (a b : StoreState) (c d e f : SinkState) → a ≡ b → c ≡ d → e ≡ f
     → ◌≡◌ {A = Outside} (record { store = a; out = c; err = e }) (record { store = b; out = d; err = f })
 outside-same a b c d e f one two three = rw (one, two, three) refl
 
 -- the moves of an opened file, with what a runner and the buffer say of them, give the line
-pub driven-IsDemoLine : (r : Request) (sink out : BufSinkState) (first last : Runner) (ending : Ending) (counts : Counts) (before_moves after : Outside) (line : List ℕ)
-    → HoldsRewritten (demo_image r.number) r.options.regions r.options.layout (Ok sink) → StandsBefore sink.bytes (codes "demo" ∷ []) first → has_ended ending ≡ true
+pub driven-IsDemoLine : (r : Request) (file : List ℕ) (out : BufSinkState) (first last : Runner) (ending : Ending) (counts : Counts) (before_moves after : Outside) (line : List ℕ)
+    → asked_file r (demo_image r.number) ≡ Ok file → StandsBefore file (codes "demo" ∷ []) first → has_ended ending ≡ true
     → before_moves ≡ demo_outside → Drives (MovesTo r.options.pattern r.options.turns ending) first last before_moves after
     → ((w : World) (s : Run) → Shows last w s → counts ≡ counts_of s) → after.out ≡ told_of_buf out
-    → line ≡ demo_line r.number (length sink.bytes) (length out.bytes) counts → IsDemoLine r line
-driven-IsDemoLine r sink out first last ending counts before_moves after line holds before ended same given counted outs is =
+    → line ≡ demo_line r.number (length file) (length out.bytes) counts → IsDemoLine r line
+driven-IsDemoLine r file out first last ending counts before_moves after line opens before ended same given counted outs is =
     let drives = subst (λ o. Drives (MovesTo r.options.pattern r.options.turns ending) first last o after) same given in
-    let w = demo_world sink.bytes in
+    let w = demo_world file in
     let stands = before.stands demo_files demo-AreFiles in
     let went = drives.went w stands.accepted (opened-now first w stands.shows) (drives.told demo_files refl) in
     record {
-      file = sink.bytes;
-      opens = asked r sink holds;
+      file = file;
+      opens = opens;
       reached = ending;
       ended = ended;
       moves = drives.moves;
@@ -93,5 +82,5 @@ driven-IsDemoLine r sink out first last ending counts before_moves after line ho
       went = went.0;
       put = out.bytes;
       puts = ap (λ o. o.bytes) outs;
-      told = is ∙ ap (λ c. demo_line r.number (length sink.bytes) (length out.bytes) c) (counted w (run w drives.moves) went.1);
+      told = is ∙ ap (λ c. demo_line r.number (length file) (length out.bytes) c) (counted w (run w drives.moves) went.1);
     }

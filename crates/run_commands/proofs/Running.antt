@@ -1,5 +1,5 @@
 -- What the parts of the commands `run` and `trace` say together.
-use Rattle.std.proofs.Common.{◌≡◌, inl, inr, ℕ, Bool, true, false, List, [], ◌∙◌, Ok, Err}
+use Rattle.std.proofs.Common.{inl, inr, ℕ, List, [], ◌∙◌, Ok, Err}
 use Rattle.std.specs.Prelude.{All}
 use Rattle.world_io.specs.Outside.{StoreState}
 use Rattle.whole_file.specs.Reading.{ReadsWhole}

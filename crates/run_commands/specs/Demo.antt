@@ -1,7 +1,7 @@
 -- What the command `demo` does: it runs a program of its own and tells how that went (this project's own).
 use Rattle.std.specs.Prelude.{◌≡◌, ℕ, ◌+◌, Bool, true, false, List, [], ◌∷◌, ◌++◌, length, drop, codes, decimal, Some, None, Ok}
 use Rattle.spec_base.specs.Files.{Files}
-use Rattle.world_io.specs.Outside.{StoreState, SinkState, no_files, with_file, untold_sink, Endless}
+use Rattle.world_io.specs.Outside.{no_files, with_file, untold_sink, Endless}
 use Rattle.world_io.specs.Buffers.{told_of_buf}
 use Rattle.trace_text.specs.Report.{report_of}
 use Rattle.trace_text.specs.declared.reporting.Counts.{Counts}

@@ -1,10 +1,12 @@
 //! The command `demo`.
 
-ghost use Rattle.std.specs.Prelude.{◌≡◌, ◌∷◌, [], codes, IfOk, None, Some};
+ghost use Rattle.std.specs.Prelude.{◌≡◌, ◌∷◌, [], codes, IfOk, None, Ok, Some};
 ghost use Rattle.world_io.specs.Outside.{SinkState, StoreState};
 ghost use Rattle.command_words.specs.Limits.{IsWithinLimits};
 ghost use Rattle.run_commands.specs.Demo.{DemoTo, IsDemoLine, demo_files, has_ended};
 ghost use Rattle.run_commands.specs.Opens.{StandsBefore};
+ghost use Rattle.run_commands.specs.Run.{asked_file};
+ghost use Rattle.sample_images.specs.Demos.{demo_image};
 
 use crate::lines::demo_line;
 use crate::opening::rewritten_file;
@@ -56,37 +58,60 @@ fn has_ended(ending: Ending) -> bool
     }
 }
 
-/// Rewrites the program, runs it over its file, and answers the line that tells of it.
-fn demonstrate(alloc: Global, request: &Request) -> Result<Vec<u8>, NoMemory>
+/// The rewritten file of the program.
+fn rewritten_demo(alloc: Global, request: &Request) -> Result<BufSink, NoMemory>
     requires { IsWithinLimits request.now }
+    ensures { IfOk result (λ file. asked_file request.now (demo_image request.now.number) ≡ Ok file.bytes) }
+{
+    let image = demo_image(alloc, request.number as u32)?;
+    let options = &request.options;
+    match rewritten_file(alloc, &image, options.regions, options.layout) {
+        Ok(file) => Ok(file),
+        // The program is accepted.
+        Err(_) => Err(NoMemory),
+    }
+}
+
+/// Runs an opened file of the program over its file, and answers the line that tells of it.
+fn told_run(
+    alloc: Global,
+    request: &Request,
+    file: &[u8],
+    runner: &mut Runner,
+) -> Result<Vec<u8>, NoMemory>
+    requires limits { IsWithinLimits request.now }
+    requires opens { asked_file request.now (demo_image request.now.number) ≡ Ok file.now }
+    requires stands { StandsBefore file.now (codes "demo" ∷ []) runner.old }
     ensures { IfOk result (λ line. IsDemoLine request.now line.items) }
 {
     let mut out = BufSink::new(alloc, ROOM)?;
     let mut store = demo_store(alloc)?;
-    let image = demo_image(alloc, request.number as u32)?;
-    let options = &request.options;
-    let Ok(file) = rewritten_file(alloc, &image, options.regions, options.layout) else {
-        return Err(NoMemory);
-    };
-    let mut runner = open(alloc, file.bytes())?;
     let mut err = CountSink::new();
-    let (pattern, turns) = (&options.pattern, options.turns);
-    let ending = drive(&mut runner, pattern, turns, &mut store, &mut out, &mut err);
+    let (pattern, turns) = (&request.options.pattern, request.options.turns);
+    let ending = drive(runner, pattern, turns, &mut store, &mut out, &mut err);
     if !has_ended(ending) {
         return Err(NoMemory);
     }
-    let (rewritten, written) = (file.bytes().len(), out.bytes().len());
-    let counts = counts(&runner);
-    match demo_line(
+    let (rewritten, written) = (file.len(), out.bytes().len());
+    let counts = counts(runner);
+    let line = demo_line(
         alloc,
         request.number,
         rewritten as u64,
         written as u64,
         &counts,
-    ) {
-        Ok(line) => Ok(line),
-        Err(NoMemory) => Err(NoMemory),
-    }
+    )?;
+    Ok(line)
+}
+
+/// Rewrites the program, runs it over its file, and answers the line that tells of it.
+fn demonstrate(alloc: Global, request: &Request) -> Result<Vec<u8>, NoMemory>
+    requires { IsWithinLimits request.now }
+    ensures { IfOk result (λ line. IsDemoLine request.now line.items) }
+{
+    let file = rewritten_demo(alloc, request)?;
+    let mut runner = open(alloc, file.bytes())?;
+    told_run(alloc, request, file.bytes(), &mut runner)
 }
 
 /// Runs a program of its own with a shadow, and puts on standard output how that went. It asks nothing

@@ -5,7 +5,7 @@ use Rattle.elf_image.specs.declared.image.ReadFault.TheVariants.{NoMemory}
 use Rattle.elf_image.specs.declared.refusal.Refusal.{Refusal}
 use Rattle.plain_runner.specs.Runs.{Outside}
 use Rattle.file_commands.specs.Plain.{RunsImage}
-use Rattle.file_commands.proofs.Outcomes.{ran-PlainTo, unread-PlainTo}
+use Rattle.file_commands.proofs.Outcomes.{ran-PlainTo}
 use Rattle.file_commands.proofs.plain.plain.Goals as goal
 
 -- memory is wanted for an accepted file alone

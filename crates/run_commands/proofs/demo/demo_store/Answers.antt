@@ -1,5 +1,5 @@
-use Rattle.std.proofs.Common.{◌≡◌, ℕ, List, ◌∙◌, ap, sym, subst, Some, None, codes}
-use Rattle.world_io.specs.Outside.{StoreState, no_files, with_file, with_added, new_store}
+use Rattle.std.proofs.Common.{◌≡◌, ℕ, List, ◌∙◌, ap, None, codes}
+use Rattle.world_io.specs.Outside.{with_added, new_store}
 use Rattle.sample_images.specs.Demos.{data_bytes}
 use Rattle.run_commands.proofs.demo.demo_store.Goals as goal
 

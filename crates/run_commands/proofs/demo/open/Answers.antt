@@ -1,4 +1,4 @@
-use Rattle.std.proofs.Common.{List, ℕ, [], ◌∷◌, codes, subst}
+use Rattle.std.proofs.Common.{List, ℕ, [], ◌∷◌, subst}
 use Rattle.std.specs.Prelude.{Ok}
 use Rattle.runner.specs.Opens.{OpensAs}
 use Rattle.run_commands.proofs.demo.open.Goals as goal

@@ -1,4 +1,4 @@
-use Rattle.std.proofs.Common.{◌≡◌, ◌+◌, ◌++◌, codes, decimal}
+use Rattle.std.proofs.Common.{◌+◌, codes, decimal}
 use Rattle.std.proofs.lemmas.List.{take_rest}
 use Rattle.run_commands.specs.Demo.{report_words}
 use Rattle.run_commands.proofs.Demonstrating.{joined}

@@ -4,7 +4,6 @@ use Rattle.world_io.specs.Buffers.{BufSinkState, told_of_buf}
 use Rattle.elf_writer.specs.FileParts.{file_length}
 use Rattle.elf_writer.specs.RewrittenFile.{rewritten_file}
 use Rattle.elf_writer.specs.Writing.{is_done, listed}
-use Rattle.elf_writer.proofs.FileLemmas.{IsWritable-rewritable}
 use Rattle.run_commands.proofs.Opens.{parts-HoldsRewritten}
 use Rattle.run_commands.proofs.opening.rewritten_file.Goals as goal
 

@@ -4,7 +4,7 @@ use Rattle.run_laws.specs.OwnLaws.{AllBytes}
 use Rattle.plain_runner.specs.Runs.{Outside}
 use Rattle.run_commands.specs.Opens.{OpensTo}
 use Rattle.run_commands.specs.Run.{RunGoes}
-use Rattle.run_commands.proofs.Running.{driven-Ran, ran-ImageTo, unread-ImageTo, unopened-ImageTo}
+use Rattle.run_commands.proofs.Running.{driven-Ran, ran-ImageTo}
 use Rattle.run_commands.proofs.run.run.Goals as goal
 
 pub returns : goal.returns
