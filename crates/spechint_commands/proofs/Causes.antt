@@ -1,5 +1,5 @@
 -- What an outcome says of the causes of an answer.
-use Rattle.std.proofs.Common.{◌≡◌, ◌⊎◌, inl, inr, ℕ, ◌≤◌, Bool, true, false, List, [], arith, refl, subst, Some, None, Option, IfSome, Err}
+use Rattle.std.proofs.Common.{◌≡◌, ◌⊎◌, inl, inr, ℕ, ◌≤◌, Bool, List, arith, refl, subst, Some, None, Option, IfSome, Err}
 use Rattle.std.specs.Prelude.{MatchOption}
 use Rattle.world_io.specs.Outside.{StoreState, SinkState, Rose}
 use Rattle.world_io.specs.Logs.{StoreLog, SinkLog, Piece}

@@ -3,7 +3,6 @@ use Rattle.std.proofs.Common.{◌≡◌, ◌⊎◌, inl, inr, ℕ, ◌≤◌, �
 use Rattle.std.proofs.lemmas.Bool.Decides.{nat_tests}
 use Rattle.spec_base.specs.Files.{Files}
 use Rattle.spec_base.specs.Layout.{file_limit}
-use Rattle.spec_base.specs.declared.machine.Trap.{Trap}
 use Rattle.world_io.specs.Outside.{StoreState, SinkState, Rose, Steady}
 use Rattle.world_io.specs.Logs.{SinkLog}
 use Rattle.world_io.specs.Texts.{PutsText}
@@ -16,12 +15,12 @@ use Rattle.elf_image.specs.declared.image.Image.{Image}
 use Rattle.elf_image.specs.declared.refusal.Refusal.{Refusal}
 use Rattle.elf_image.specs.declared.refusal.Refusal.TheVariants.{TooLong}
 use Rattle.rewriter.specs.declared.writing.Rewritten.TheVariants as rewritten
-use Rattle.program_model.specs.PlainRun.{State, Image as Program, Taken}
+use Rattle.program_model.specs.PlainRun.{Image as Program, Taken}
 use Rattle.command_words.specs.CommandLine.{command_of}
 use Rattle.command_words.specs.declared.command.Command.{Command}
 use Rattle.command_words.specs.declared.command.Command.TheVariants.{Plain, Rewrite, Run, Trace, Demo, Replay, Plan}
 use Rattle.command_words.specs.declared.request.Request.{Request}
-use Rattle.plain_runner.specs.Runs.{Outside, EndsBy, Agrees, FailedPuts}
+use Rattle.plain_runner.specs.Runs.{Outside, EndsBy, FailedPuts}
 use Rattle.plain_runner.specs.declared.ending.Ending.{Ending}
 use Rattle.plain_runner.specs.declared.ending.Ending.TheVariants as ending
 use Rattle.run_model.specs.Run.{World}

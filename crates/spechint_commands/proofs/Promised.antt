@@ -1,5 +1,5 @@
 -- What a user of `run` and `trace` may rely on, from the laws of runs.
-use Rattle.std.proofs.Common.{inl, inr, ℕ, Bool, true, false, List, Option, Some, None, IfSome, refl, sym, subst}
+use Rattle.std.proofs.Common.{inl, inr, ℕ, List, Option, Some, None, IfSome, refl, sym, subst}
 use Rattle.spec_base.specs.Files.{Files}
 use Rattle.world_io.specs.Outside.{SinkState}
 use Rattle.plain_runner.specs.Runs.{Outside}

@@ -1,5 +1,5 @@
 -- What a user of `run` and `trace` may rely on: the program does as by itself, its shadow is bounded and its hints are true, and it gets on (this project's own).
-use Rattle.std.specs.Prelude.{◌≡◌, ◌⊎◌, ℕ, Bool, true, false, List, Some, Ok, Result, IfSome}
+use Rattle.std.specs.Prelude.{◌≡◌, ◌⊎◌, ℕ, List, Some, Ok, Result, IfSome}
 use Rattle.spec_base.specs.Files.{Files}
 use Rattle.world_io.specs.Outside.{StoreState, SinkState, Endless}
 use Rattle.whole_file.specs.Reading.{ReadsWhole}
