@@ -1,5 +1,5 @@
 -- What an outcome says of the causes of an answer.
-use Rattle.std.proofs.Common.{◌≡◌, ◌⊎◌, inl, inr, ℕ, ◌≤◌, Bool, true, false, List, [], arith, refl, subst, Some, None, Option, IfSome, Err}
+use Rattle.std.proofs.Common.{◌≡◌, ◌⊎◌, inl, inr, ℕ, ◌≤◌, Bool, List, arith, refl, subst, Some, None, Option, IfSome, Err}
 use Rattle.std.specs.Prelude.{MatchOption}
 use Rattle.world_io.specs.Outside.{StoreState, SinkState, Rose}
 use Rattle.world_io.specs.Logs.{StoreLog, SinkLog, Piece}
@@ -15,15 +15,16 @@ use Rattle.command_words.specs.declared.command.Command.TheVariants.{Plain, Rewr
 use Rattle.command_words.specs.declared.request.Request.{Request}
 use Rattle.plain_runner.specs.Runs.{Outside, CallsStore, FailedPuts}
 use Rattle.plain_runner.specs.declared.ending.Ending.TheVariants as ending
-use Rattle.spechint_commands.specs.Texts.{text_of}
-use Rattle.spechint_commands.specs.Lines.{replay_line, plan_line}
+use Rattle.command_status.specs.Texts.{text_of, Tells}
+use Rattle.file_commands.specs.Lines.{replay_line, plan_line}
 use Rattle.runner.specs.Causes.{SinkRose}
 use Rattle.program_driver.specs.Causes.{HasCause}
-use Rattle.spechint_commands.specs.Common.{image_name}
-use Rattle.spechint_commands.specs.Run.{Going, Ran, ImageTo, RunGoes, TraceGoes}
-use Rattle.spechint_commands.specs.Top.{IsOutcome, CommandTo, Accepted, Tells, TellsAlone, asked_program}
-use Rattle.spechint_commands.specs.declared.status.Status.{Status}
-use Rattle.spechint_commands.specs.declared.status.Status.TheVariants.{Usage, Absent, StoreFault, SinkFault, NoMemory}
+use Rattle.command_status.specs.Common.{image_name, TellsAlone}
+use Rattle.run_commands.specs.Run.{Going, Ran, ImageTo, RunGoes, TraceGoes}
+use Rattle.file_commands.specs.Plain.{Accepted, asked_program}
+use Rattle.spechint_commands.specs.Top.{IsOutcome, CommandTo}
+use Rattle.command_status.specs.declared.status.Status.{Status}
+use Rattle.command_status.specs.declared.status.Status.TheVariants.{Usage, Absent, StoreFault, SinkFault, NoMemory}
 
 -- ---- outcomes, by the request that the words make
 

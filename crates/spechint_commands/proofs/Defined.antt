@@ -3,7 +3,6 @@ use Rattle.std.proofs.Common.{◌≡◌, ◌⊎◌, inl, inr, ℕ, ◌≤◌, �
 use Rattle.std.proofs.lemmas.Bool.Decides.{nat_tests}
 use Rattle.spec_base.specs.Files.{Files}
 use Rattle.spec_base.specs.Layout.{file_limit}
-use Rattle.spec_base.specs.declared.machine.Trap.{Trap}
 use Rattle.world_io.specs.Outside.{StoreState, SinkState, Rose, Steady}
 use Rattle.world_io.specs.Logs.{SinkLog}
 use Rattle.world_io.specs.Texts.{PutsText}
@@ -16,12 +15,12 @@ use Rattle.elf_image.specs.declared.image.Image.{Image}
 use Rattle.elf_image.specs.declared.refusal.Refusal.{Refusal}
 use Rattle.elf_image.specs.declared.refusal.Refusal.TheVariants.{TooLong}
 use Rattle.rewriter.specs.declared.writing.Rewritten.TheVariants as rewritten
-use Rattle.program_model.specs.PlainRun.{State, Image as Program, Taken}
+use Rattle.program_model.specs.PlainRun.{Image as Program, Taken}
 use Rattle.command_words.specs.CommandLine.{command_of}
 use Rattle.command_words.specs.declared.command.Command.{Command}
 use Rattle.command_words.specs.declared.command.Command.TheVariants.{Plain, Rewrite, Run, Trace, Demo, Replay, Plan}
 use Rattle.command_words.specs.declared.request.Request.{Request}
-use Rattle.plain_runner.specs.Runs.{Outside, EndsBy, Agrees, FailedPuts}
+use Rattle.plain_runner.specs.Runs.{Outside, EndsBy, FailedPuts}
 use Rattle.plain_runner.specs.declared.ending.Ending.{Ending}
 use Rattle.plain_runner.specs.declared.ending.Ending.TheVariants as ending
 use Rattle.run_model.specs.Run.{World}
@@ -44,15 +43,18 @@ use Rattle.trace_replay.specs.declared.totals.Totals.{Totals}
 use Rattle.fetch_plan.specs.Needs.{needed_blocks}
 use Rattle.fetch_plan.specs.Traces.{needs_by, HasLeast}
 use Rattle.fetch_plan.specs.declared.traces.PlanTotals.{PlanTotals}
-use Rattle.spechint_commands.specs.Texts.{text_of}
-use Rattle.spechint_commands.specs.Lines.{replay_line, plan_line}
-use Rattle.spechint_commands.specs.Run.{asked_file, Going, Ran, ImageTo, RunGoes, TraceGoes, RunTo, TraceTo}
-use Rattle.spechint_commands.specs.Common.{Silent, Stopped, EndingStatus, ReadsFile, image_name, PutsLine}
-use Rattle.spechint_commands.specs.Demo.{DemoTo}
-use Rattle.spechint_commands.specs.Top.{Runs, Accepted, PlainTo, Rewrites, RewriteTo, settings_of, ReplayTo, PlanTo, CommandTo, IsOutcome}
+use Rattle.command_status.specs.Texts.{text_of}
+use Rattle.file_commands.specs.Lines.{replay_line, plan_line}
+use Rattle.run_commands.specs.Run.{asked_file, Going, Ran, ImageTo, RunGoes, TraceGoes, RunTo, TraceTo}
+use Rattle.command_status.specs.Common.{Silent, Stopped, EndingStatus, ReadsFile, image_name, PutsLine}
+use Rattle.run_commands.specs.Demo.{DemoTo}
+use Rattle.file_commands.specs.Plain.{Runs, Accepted, PlainTo}
+use Rattle.file_commands.specs.Rewrite.{Rewrites, RewriteTo}
+use Rattle.file_commands.specs.Traces.{settings_of, ReplayTo, PlanTo}
+use Rattle.spechint_commands.specs.Top.{CommandTo, IsOutcome}
 use Rattle.spechint_commands.specs.Defined.{EndsAs, IsPlainRun, IsEnd, IsDefinedRun, IsDefinedTrace, ByOpened, ByBytes, ByProfile, BySize, ByFile, ByReplayed, ByNeeds, ByPlanned, ByTrace, ByTraceSize, ByTraceFile, ByCommand, ByRequest, IsDefined, IsSteady}
-use Rattle.spechint_commands.specs.declared.status.Status.{Status}
-use Rattle.spechint_commands.specs.declared.status.Status.TheVariants.{Done, Exited, Trapped, TurnsOver, Usage, Absent, Refused, BadLine, TooMany, StoreFault, SinkFault, NoMemory}
+use Rattle.command_status.specs.declared.status.Status.{Status}
+use Rattle.command_status.specs.declared.status.Status.TheVariants.{Done, Exited, Trapped, TurnsOver, Usage, Absent, Refused, BadLine, TooMany, StoreFault, SinkFault, NoMemory}
 use Rattle.runner.specs.Causes.{SinkRose}
 use Rattle.spechint_commands.proofs.AsPlain.{as_plain-store}
 use Rattle.spechint_commands.proofs.Causes.{ByMemory, failed_read, failed_run, put_failed, image_store_fault, ran-SinkRose}

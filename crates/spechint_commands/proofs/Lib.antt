@@ -1,8 +1,3 @@
-mod Digits
-mod Outcomes
-mod Opens
-mod Running
-mod Demonstrating
 mod AsPlain
 mod Causes
 mod Promised

@@ -1,5 +1,5 @@
 -- What a user of `run` and `trace` may rely on, from the laws of runs.
-use Rattle.std.proofs.Common.{inl, inr, ℕ, Bool, true, false, List, Option, Some, None, IfSome, refl, sym, subst}
+use Rattle.std.proofs.Common.{inl, inr, ℕ, List, Option, Some, None, IfSome, refl, sym, subst}
 use Rattle.spec_base.specs.Files.{Files}
 use Rattle.world_io.specs.Outside.{SinkState}
 use Rattle.plain_runner.specs.Runs.{Outside}
@@ -13,12 +13,13 @@ use Rattle.command_words.specs.CommandLine.{command_of}
 use Rattle.command_words.specs.declared.command.Command.{Command}
 use Rattle.command_words.specs.declared.command.Command.TheVariants.{Plain, Rewrite, Run, Trace, Demo, Replay, Plan}
 use Rattle.command_words.specs.declared.request.Request.{Request}
-use Rattle.spechint_commands.specs.Common.{EndingStatus, Silent, image_name}
-use Rattle.spechint_commands.specs.Run.{Going, Ran, ImageTo, RunGoes, TraceGoes}
-use Rattle.spechint_commands.specs.Top.{CommandTo, IsOutcome, Tells}
+use Rattle.command_status.specs.Common.{EndingStatus, Silent, image_name}
+use Rattle.run_commands.specs.Run.{Going, Ran, ImageTo, RunGoes, TraceGoes}
+use Rattle.command_status.specs.Texts.{Tells}
+use Rattle.spechint_commands.specs.Top.{CommandTo, IsOutcome}
 use Rattle.spechint_commands.specs.Promised.{IsKept, IsTraceKept, Promise, KeepsPromise, PutsTextAlone, ImagePromises, CommandPromises, Promises}
-use Rattle.spechint_commands.specs.declared.status.Status.{Status}
-use Rattle.spechint_commands.specs.declared.status.Status.TheVariants.{Done, Exited, Trapped, TurnsOver, Usage, Absent, Refused, BadLine, TooMany, StoreFault, SinkFault, NoMemory}
+use Rattle.command_status.specs.declared.status.Status.{Status}
+use Rattle.command_status.specs.declared.status.Status.TheVariants.{Done, Exited, Trapped, TurnsOver, Usage, Absent, Refused, BadLine, TooMany, StoreFault, SinkFault, NoMemory}
 use Rattle.spechint_commands.proofs.AsPlain.{as_plain-store}
 use Rattle.spechint_commands.proofs.Causes.{ByMemory}
 

@@ -33,14 +33,15 @@ use Rattle.trace_replay.specs.Totals.{totals_of}
 use Rattle.fetch_plan.specs.Needs.{needed_blocks}
 use Rattle.fetch_plan.specs.Traces.{HasLeast}
 use Rattle.fetch_plan.specs.declared.traces.PlanTotals.{PlanTotals}
-use Rattle.spechint_commands.specs.Texts.{text_of}
-use Rattle.spechint_commands.specs.Lines.{replay_line, plan_line}
-use Rattle.spechint_commands.specs.Common.{Silent, EndingStatus, PutsLine, image_name}
-use Rattle.spechint_commands.specs.Run.{asked_file}
-use Rattle.spechint_commands.specs.Demo.{IsDemoLine}
-use Rattle.spechint_commands.specs.Top.{settings_of, asked_program}
-use Rattle.spechint_commands.specs.declared.status.Status.{Status}
-use Rattle.spechint_commands.specs.declared.status.Status.TheVariants.{Done, Exited, Trapped, TurnsOver, Usage, Absent, Refused, BadLine, TooMany, StoreFault, SinkFault, NoMemory}
+use Rattle.command_status.specs.Texts.{text_of}
+use Rattle.file_commands.specs.Lines.{replay_line, plan_line}
+use Rattle.command_status.specs.Common.{Silent, EndingStatus, PutsLine, image_name}
+use Rattle.run_commands.specs.Run.{asked_file}
+use Rattle.run_commands.specs.Demo.{IsDemoLine}
+use Rattle.file_commands.specs.Plain.{asked_program}
+use Rattle.file_commands.specs.Traces.{settings_of}
+use Rattle.command_status.specs.declared.status.Status.{Status}
+use Rattle.command_status.specs.declared.status.Status.TheVariants.{Done, Exited, Trapped, TurnsOver, Usage, Absent, Refused, BadLine, TooMany, StoreFault, SinkFault, NoMemory}
 
 -- ---- a program's run
 

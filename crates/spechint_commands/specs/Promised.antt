@@ -1,5 +1,5 @@
 -- What a user of `run` and `trace` may rely on: the program does as by itself, its shadow is bounded and its hints are true, and it gets on (this project's own).
-use Rattle.std.specs.Prelude.{◌≡◌, ◌⊎◌, ℕ, Bool, true, false, List, Some, Ok, Result, IfSome}
+use Rattle.std.specs.Prelude.{◌≡◌, ◌⊎◌, ℕ, List, Some, Ok, Result, IfSome}
 use Rattle.spec_base.specs.Files.{Files}
 use Rattle.world_io.specs.Outside.{StoreState, SinkState, Endless}
 use Rattle.whole_file.specs.Reading.{ReadsWhole}
@@ -20,11 +20,11 @@ use Rattle.command_words.specs.CommandLine.{command_of}
 use Rattle.command_words.specs.declared.command.Command.{Command}
 use Rattle.command_words.specs.declared.command.Command.TheVariants.{Run, Trace}
 use Rattle.command_words.specs.declared.request.Request.{Request}
-use Rattle.spechint_commands.specs.Common.{EndingStatus, image_name}
-use Rattle.spechint_commands.specs.Run.{asked_file}
-use Rattle.spechint_commands.specs.Top.{Tells}
-use Rattle.spechint_commands.specs.declared.status.Status.{Status}
-use Rattle.spechint_commands.specs.declared.status.Status.TheVariants.{Done, Exited, Trapped, TurnsOver, Usage, Absent, Refused, BadLine, TooMany, StoreFault, SinkFault, NoMemory}
+use Rattle.command_status.specs.Common.{EndingStatus, image_name}
+use Rattle.run_commands.specs.Run.{asked_file}
+use Rattle.command_status.specs.Texts.{Tells}
+use Rattle.command_status.specs.declared.status.Status.{Status}
+use Rattle.command_status.specs.declared.status.Status.TheVariants.{Done, Exited, Trapped, TurnsOver, Usage, Absent, Refused, BadLine, TooMany, StoreFault, SinkFault, NoMemory}
 
 -- moves of a file's world, over these files, came to an end. Standard error has what the program put, behind it the report's line where it was asked for, and then the text of the status
 pub record IsKept (r : Request) (bytes file : List ℕ) (moves : Moves) (files : Files) (status : Status) (old new : Outside) : Type 0 where

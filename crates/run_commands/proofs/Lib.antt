@@ -1,0 +1,3 @@
+mod Opens
+mod Running
+mod Demonstrating
