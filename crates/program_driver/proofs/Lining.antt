@@ -98,10 +98,6 @@ both-lines xs ys (Ok done) (Err fault) a b c good first then = later-PutsSome fa
 pub first-lines : (xs ys : List Line) (fault : LineFault) (one : Result (Unit {0}) LineFault) (a b : SinkState) → one ≡ Err fault → LinesTo xs one a b → LinesTo (xs ++ ys) (Err fault) a b
 first-lines xs ys fault one a b is first = sooner-PutsSome fault a b xs ys (subst (λ answer. LinesTo xs answer a b) is first)
 
--- one line
-pub put-one : (a b : SinkState) (line : Line) → PutsLine a line true b → ArePut a (line ∷ []) b
-put-one a b line puts = (b, puts, refl)
-
 pub stops-one : (fault : LineFault) (a b : SinkState) (line : Line) → StopsAt fault a line b → PutsSome fault a (line ∷ []) b
 stops-one fault a b line stops = record { whole = []; next = line; rest = []; between = a; are = refl; puts = refl; stops = stops }
 
@@ -112,9 +108,6 @@ pub record LinesLog (old : SinkState) (lines rest : List Line) (now : SinkState)
   pub sooner : List Line
   pub are : lines ≡ sooner ++ rest
   pub puts : ArePut old sooner now
-
-pub first-LinesLog : (old : SinkState) (lines : List Line) → LinesLog old lines lines old
-first-LinesLog old lines = record { sooner = []; are = refl; puts = refl }
 
 pub next-LinesLog : (old now new : SinkState) (lines rest more : List Line) (line : Line) → LinesLog old lines rest now → rest ≡ line ∷ more → ArePut now (line ∷ []) new → LinesLog old lines more new
 next-LinesLog old now new lines rest more line log is puts =
@@ -129,10 +122,6 @@ pub stop-LinesLog : (fault : LineFault) (old now new : SinkState) (lines rest mo
 stop-LinesLog fault old now new lines rest more line log is stops =
     subst (λ l. PutsSome fault old l new) (sym (log.are ∙ ap (λ l. log.sooner ++ l) is))
     (later-PutsSome fault old now new log.sooner (line ∷ more) log.puts (sooner-PutsSome fault now new (line ∷ []) more stops))
-
-pub all-LinesLog : (old now : SinkState) (lines rest : List Line) → LinesLog old lines rest now → rest ≡ [] → ArePut old lines now
-all-LinesLog old now lines rest log none =
-    subst (λ l. ArePut old l now) (sym (log.are ∙ ap (λ l. log.sooner ++ l) none ∙ append-nil log.sooner)) log.puts
 
 -- ---- the lines of notes
 

@@ -48,9 +48,6 @@ item-owns m count moves = owns-append (replicate count m) moves ∙ ap (λ n. n 
 
 -- ---- moves that are passed
 
-pub none-Passes : (moves : List Move) → Passes 0 moves moves
-none-Passes moves = record { front = []; are = refl; own_is = refl }
-
 pub more-Passes : (own more : ℕ) (old mid new : List Move) → Passes own old mid → Passes more mid new → Passes (own + more) old new
 more-Passes own more old mid new p q =
     record {

@@ -1,5 +1,5 @@
 -- What the parts of the commands `run` and `trace` say together.
-use Rattle.std.proofs.Common.{inl, inr, ℕ, List, [], ◌∙◌, Ok, Err}
+use Rattle.std.proofs.Common.{inr, ℕ, List, [], ◌∙◌, Ok}
 use Rattle.std.specs.Prelude.{All}
 use Rattle.world_io.specs.Outside.{StoreState}
 use Rattle.whole_file.specs.Reading.{ReadsWhole}
@@ -16,7 +16,7 @@ use Rattle.program_driver.specs.Causes.{HasCause}
 use Rattle.program_driver.specs.Runs.{Drives}
 use Rattle.command_words.specs.Limits.{IsWithinLimits}
 use Rattle.command_words.specs.declared.request.Request.{Request}
-use Rattle.command_status.specs.Common.{FileRead, Silent, ReadsFile, EndingStatus, image_name}
+use Rattle.command_status.specs.Common.{EndingStatus, image_name}
 use Rattle.run_commands.specs.Opens.{OpensTo}
 use Rattle.run_commands.specs.Run.{Going, Ran, ImageTo}
 use Rattle.command_status.specs.declared.status.Status.{Status}
@@ -72,33 +72,3 @@ ran-ImageTo go r (BadLine number) old new h = absurd h.gives
 ran-ImageTo go r TooMany old new h = absurd h.gives
 ran-ImageTo go r Absent old new h = absurd h.gives
 ran-ImageTo go r (Refused why) old new h = absurd h.gives
-
--- a reading that came to no file
-pub unread-ImageTo : (go : Going) (r : Request) (status : Status) (old new : Outside) → FileRead r (Err status) old.store new.store → Silent old new → ImageTo go r status old new
-unread-ImageTo go r Absent old new h silent = (h, silent)
-unread-ImageTo go r (Refused why) old new h silent = inl ((h.0, silent), h.1)
-unread-ImageTo go r StoreFault old new h silent = inl (h, silent)
-unread-ImageTo go r NoMemory old new h silent = inl (inl (h, silent))
-unread-ImageTo go r Done old new h silent = absurd h
-unread-ImageTo go r Usage old new h silent = absurd h
-unread-ImageTo go r (BadLine number) old new h silent = absurd h
-unread-ImageTo go r TooMany old new h silent = absurd h
-unread-ImageTo go r SinkFault old new h silent = absurd h
-unread-ImageTo go r (Exited code) old new h silent = absurd h
-unread-ImageTo go r (Trapped cause pc) old new h silent = absurd h
-unread-ImageTo go r (TurnsOver count) old new h silent = absurd h
-
--- a file that wasn't opened
-pub unopened-ImageTo : (go : Going) (r : Request) (bytes : List ℕ) (status : Status) (old new : Outside) → ReadsFile r bytes old new → OpensTo r bytes (Err status) → Silent old new → ImageTo go r status old new
-unopened-ImageTo go r bytes (Refused why) old new read h silent = inr (bytes, read, h, silent)
-unopened-ImageTo go r bytes NoMemory old new read h silent = inl (inr (bytes, read, h, silent))
-unopened-ImageTo go r bytes Absent old new read h silent = absurd h
-unopened-ImageTo go r bytes StoreFault old new read h silent = absurd h
-unopened-ImageTo go r bytes Done old new read h silent = absurd h
-unopened-ImageTo go r bytes Usage old new read h silent = absurd h
-unopened-ImageTo go r bytes (BadLine number) old new read h silent = absurd h
-unopened-ImageTo go r bytes TooMany old new read h silent = absurd h
-unopened-ImageTo go r bytes SinkFault old new read h silent = absurd h
-unopened-ImageTo go r bytes (Exited code) old new read h silent = absurd h
-unopened-ImageTo go r bytes (Trapped cause pc) old new read h silent = absurd h
-unopened-ImageTo go r bytes (TurnsOver count) old new read h silent = absurd h
