@@ -14,3 +14,4 @@ mod Silent
 mod CallReads
 mod Using
 pub mod FirstUses
+mod WorkedUses
