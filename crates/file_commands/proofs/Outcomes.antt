@@ -36,7 +36,3 @@ ran-PlainTo r bytes image status old new between read accepted (inl (starved, un
     (inl (inr (bytes, image, subst (λ s. ReadsWhole old.store (image_name r) (Ok bytes) s) (sym untouched.0) read, accepted, untouched.1)))
 ran-PlainTo r bytes image status old new between read accepted (inr run) =
     accepted-PlainTo r status old new (record { bytes = bytes; image = image; between = between; read = read; accepted = accepted; ran = run })
-
--- ---- readings that came to no file
-
--- ---- rewriting

@@ -19,8 +19,6 @@ one_last g k x y e f = cc
 pub nowhere : {A : Type 0} (g : ℕ → Option ℕ) (k x : ℕ) → g k ≡ Some x → g k ≡ None → A
 nowhere g k x e f = let bad : Some x ≡ None = sym e ∙ f in cc
 
--- ---- what reaches an address
-
 -- ---- one range takes in others
 
 pub absorbing-start : (g : ℕ → Option ℕ) (first last : ℕ) → IsReady g first last → IsAbsorbing g g first last last
