@@ -1,6 +1,6 @@
 -- Lists that are read step by step.
 use Rattle.std.proofs.Common.{◌≡◌, ℕ, ◌+◌, ◌<◌, ◌≤◌, Bool, true, List, [], ◌∷◌, length, get_or, drop, map, refl, sym, ap, ◌∙◌}
-use Rattle.std.specs.Prelude.{Option, None, option_and_then, ◌&&◌}
+use Rattle.std.specs.Prelude.{Option, Some, None, option_and_then, ◌&&◌}
 use Rattle.std.specs.List.{list_all}
 use Rattle.std.proofs.lemmas.List.{drop_more, drop_all}
 use Rattle.command_words.specs.Values.{read_all, taken_if}
@@ -10,23 +10,21 @@ abbrev pub outcome : {S A B : Type 0} → (S → A → Option S) → (S → Opti
 outcome step finish state items = option_and_then finish (read_all step state items)
 
 -- a step takes the next item
-pub outcome-step : {S A B : Type 0} (step : S → A → Option S) (finish : S → Option B) (state next : S) (items : List A) (i : ℕ) (d : A) → i < length items
-    → taken_if true next ≡ step state (get_or items i d) → outcome step finish state (drop i items) ≡ outcome step finish next (drop (i + 1) items)
-outcome-step step finish state next items i d lt taken =
-    ap (outcome step finish state) (drop_more items i d lt)
-    ∙ ap (λ o. option_and_then finish (option_and_then (λ s. read_all step s (drop (i + 1) items)) o)) (sym taken)
+pub read_all-step : {S A : Type 0} (step : S → A → Option S) (state next : S) (items : List A) (i : ℕ) (d : A) → i < length items
+    → taken_if true next ≡ step state (get_or items i d) → read_all step state (drop i items) ≡ read_all step next (drop (i + 1) items)
+read_all-step step state next items i d lt taken =
+    ap (read_all step state) (drop_more items i d lt) ∙ ap (option_and_then (λ s. read_all step s (drop (i + 1) items))) (sym taken)
 
 -- a step refuses it
-pub outcome-refused : {S A B : Type 0} (step : S → A → Option S) (finish : S → Option B) (state : S) (items : List A) (i : ℕ) (d : A) → i < length items
-    → None ≡ step state (get_or items i d) → outcome step finish state (drop i items) ≡ None
-outcome-refused step finish state items i d lt refused =
-    ap (outcome step finish state) (drop_more items i d lt)
-    ∙ ap (λ o. option_and_then finish (option_and_then (λ s. read_all step s (drop (i + 1) items)) o)) (sym refused)
+pub read_all-refused : {S A : Type 0} (step : S → A → Option S) (state : S) (items : List A) (i : ℕ) (d : A) → i < length items
+    → None ≡ step state (get_or items i d) → read_all step state (drop i items) ≡ None
+read_all-refused step state items i d lt refused =
+    ap (read_all step state) (drop_more items i d lt) ∙ ap (option_and_then (λ s. read_all step s (drop (i + 1) items))) (sym refused)
 
 -- all items are read
-pub outcome-end : {S A B : Type 0} (step : S → A → Option S) (finish : S → Option B) (state : S) (items : List A) (i : ℕ) → length items ≤ i
-    → outcome step finish state (drop i items) ≡ finish state
-outcome-end step finish state items i all = ap (outcome step finish state) (drop_all i items all)
+pub read_all-end : {S A : Type 0} (step : S → A → Option S) (state : S) (items : List A) (i : ℕ) → length items ≤ i
+    → read_all step state (drop i items) ≡ Some state
+read_all-end step state items i all = ap (read_all step state) (drop_all i items all)
 
 pub list_all-map : {A B : Type 0} (test : B → Bool) (f : A → B) (items : List A) → list_all test (map f items) ≡ list_all (λ item. test (f item)) items
 list_all-map test f [] = refl

@@ -9,7 +9,7 @@ use Rattle.std.proofs.lemmas.Bool.Decides.{nat_tests}
 use Rattle.std.proofs.lemmas.List.{take_rest}
 use Rattle.std.proofs.lemmas.Str.Parse.{IsNumeralModel, numerals_by_value, parse_gives, digits_value_short}
 use Rattle.spec_base.specs.declared.note.Move.{Move}
-use Rattle.command_words.specs.Values.{read_byte, is_number, move_of, pattern_in, Pattern, whole_items, at_most_65_536}
+use Rattle.command_words.specs.Values.{read_all, read_byte, is_number, move_of, pattern_in, Pattern, whole_items, at_most_65_536}
 use Rattle.command_words.specs.declared.pattern.Items.{Items}
 use Rattle.command_words.proofs.Steps.{outcome}
 
@@ -47,6 +47,15 @@ pattern_in-begins [] first some letter = absurd (omega arith)
 pattern_in-begins (c ∷ cs) first some letter =
     ap (λ o. option_and_then (λ move. outcome read_byte finished (record { done = []; current = move; count = 0 }) cs) o) (sym letter)
     ∙ ap (outcome read_byte finished (record { done = []; current = first; count = 0 })) (sym (take_rest (c ∷ cs) 1))
+
+-- with what was read of the bytes behind the first letter, where no item stood yet
+pub pattern_in-read : (word : List ℕ) (first : Move) (done : Pattern) (read : Option Items) → 0 < length word → Some first ≡ move_of (get_or word 0 0)
+    → done ≡ [] → read ≡ read_all read_byte (record { done = done; current = first; count = 0 }) (take (length word - 1) (drop 1 word))
+    → pattern_in word ≡ option_and_then finished read
+pattern_in-read word first done read some letter none is =
+    pattern_in-begins word first some letter
+    ∙ ap (λ (d : Pattern). outcome read_byte finished (record { done = d; current = first; count = 0 }) (take (length word - 1) (drop 1 word))) (sym none)
+    ∙ ap (option_and_then finished) (sym is)
 
 pub pattern_in-other : (word : List ℕ) → 0 < length word → None ≡ move_of (get_or word 0 0) → pattern_in word ≡ None
 unfolding pattern_in

@@ -40,7 +40,7 @@ pub struct Options {
 }
 
 /// The options that were chosen so far.
-#[derive(Debug, Drop)]
+#[derive(Drop)]
 pub struct Chosen {
     turns: Option<u64>,
     regions: Option<u32>,

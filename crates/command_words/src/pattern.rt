@@ -1,7 +1,7 @@
 //! Patterns of moves.
 
 ghost use Rattle.std.specs.Prelude.{◌≡◌, IfOk, MatchOption, None};
-ghost use Rattle.command_words.specs.Values.{taken_if, read_byte, move_of, with_digit, with_move, whole_items, pattern_in};
+ghost use Rattle.command_words.specs.Values.{taken_if, read_all, read_byte, move_of, with_digit, with_move, whole_items, pattern_in};
 
 use spec_base::{List, Move, NoMemory};
 use std::alloc::Global;
@@ -14,7 +14,7 @@ const MAX_COUNT: u64 = 1_000_000;
 
 /// The items of a pattern that were read: those with a whole count, and the last one, whose count
 /// is 0 while it has no digit.
-#[derive(Debug, Drop)]
+#[derive(Drop)]
 pub struct Items {
     done: List<(Move, u32)>,
     current: Move,
@@ -76,6 +76,18 @@ impl Items {
         }
     }
 
+    // Goes on with bytes, one after the other. It is false where no pattern goes on so.
+    fn read_all(&mut self, bytes: &[u8]) -> Result<bool, NoMemory>
+        ensures { IfOk result (λ fits. taken_if fits self.new ≡ read_all read_byte self.old bytes.now) }
+    {
+        for byte in bytes {
+            if !self.read_byte(*byte)? {
+                return Ok(false);
+            }
+        }
+        Ok(true)
+    }
+
     // All items, if the last one has a count.
     fn finish(mut self) -> Result<Option<List<(Move, u32)>>, NoMemory>
         ensures { IfOk result (λ items. items ≡ whole_items self) }
@@ -107,10 +119,8 @@ pub fn read_pattern(alloc: Global, word: &str) -> Result<Option<List<(Move, u32)
         current: first,
         count: 0,
     };
-    for byte in bytes {
-        if !items.read_byte(*byte)? {
-            return Ok(None);
-        }
+    if !items.read_all(bytes)? {
+        return Ok(None);
     }
     let Some(pattern) = items.finish()? else {
         return Ok(None);

@@ -1,8 +1,8 @@
 //! The words of a command line, one after another.
 
-ghost use Rattle.std.specs.Prelude.{◌≡◌, IfOk, MatchOption, true, false};
+ghost use Rattle.std.specs.Prelude.{◌≡◌, IfOk, MatchOption, true, false, map, string_bytes};
 ghost use Rattle.std.specs.List.{list_any, before_first, after_first};
-ghost use Rattle.command_words.specs.Values.{taken_if};
+ghost use Rattle.command_words.specs.Values.{read_all, taken_if};
 ghost use Rattle.command_words.specs.CommandLine.{is_equals, begins_with_dash, is_complete, with_setting, with_name, read_option, read_open, read_word, beginning};
 
 use crate::arguments::Arguments;
@@ -13,7 +13,7 @@ use spec_base::NoMemory;
 use std::alloc::Global;
 
 /// What the next word may be.
-#[derive(Clone, Copy, Debug, PartialEq, Eq)]
+#[derive(Clone, Copy)]
 pub enum Stage {
     /// An option or an argument.
     Open,
@@ -24,7 +24,7 @@ pub enum Stage {
 }
 
 /// What was read so far.
-#[derive(Debug, Drop)]
+#[derive(Drop)]
 pub struct Reading {
     pub stage: Stage,
     pub chosen: Chosen,
@@ -148,5 +148,22 @@ impl Reading {
                 Ok(true)
             }
         }
+    }
+
+    /// Takes all words in turn. It is false where no command line goes on so.
+    pub fn read_all(
+        &mut self,
+        alloc: Global,
+        command: Command,
+        words: &[String],
+    ) -> Result<bool, NoMemory>
+        ensures { IfOk result (λ fits. taken_if fits self.new ≡ read_all (read_word command) self.old (map string_bytes words.now)) }
+    {
+        for word in words {
+            if !self.read_word(alloc, command, word)? {
+                return Ok(false);
+            }
+        }
+        Ok(true)
     }
 }

@@ -1,9 +1,9 @@
 //! What a command line asks for.
 
-ghost use Rattle.std.specs.Prelude.{◌≡◌, IfOk, IfSome, map, string_bytes};
+ghost use Rattle.std.specs.Prelude.{◌≡◌, ◌&&◌, if◌then◌else◌, None, IfOk, IfSome, map, string_bytes};
 ghost use Rattle.std.specs.List.{list_all};
 ghost use Rattle.command_words.specs.Limits.{IsWithinLimits};
-ghost use Rattle.command_words.specs.CommandLine.{has_no_zero, is_file_name, is_count_of, fit_in_memory, are_arguments, number_for, request_of, command_of};
+ghost use Rattle.command_words.specs.CommandLine.{has_no_zero, is_file_name, is_count_of, fit_in_memory, are_arguments, is_complete, number_for, request_of, command_of};
 
 use crate::arguments::Arguments;
 use crate::command::Command;
@@ -90,15 +90,22 @@ fn number_for(command: Command, words: &[String]) -> Option<u64>
     }
 }
 
+// The number, where nothing waits for its value and the words are those of the command.
+fn number_asked(command: Command, reading: &Reading) -> Option<u64>
+    ensures { result ≡ (if is_complete reading.now.stage && are_arguments command reading.now.arguments then number_for command reading.now.arguments else None) }
+{
+    let words = reading.arguments.as_slice();
+    if !reading.stage.is_complete() || !are_arguments(command, words) {
+        return None;
+    }
+    number_for(command, words)
+}
+
 #[tactic(auto, unfolding(crate::specs::CommandLine::request_of))]
 fn finish(alloc: Global, command: Command, reading: Reading) -> Result<Option<Request>, NoMemory>
     ensures { IfOk result (λ request. request ≡ request_of command reading) }
 {
-    let words = reading.arguments.as_slice();
-    if !reading.stage.is_complete() || !are_arguments(command, words) {
-        return Ok(None);
-    }
-    let Some(number) = number_for(command, words) else {
+    let Some(number) = number_asked(command, &reading) else {
         return Ok(None);
     };
     Ok(Some(Request {
@@ -109,12 +116,10 @@ fn finish(alloc: Global, command: Command, reading: Reading) -> Result<Option<Re
     }))
 }
 
-/// What the words of a command line ask for, or None where they are no command line. Only want of
-/// memory is an error.
+// The request of a command line's words.
 #[tactic(auto, unfolding(crate::specs::CommandLine::command_of))]
-pub fn read_words(alloc: Global, words: &[String]) -> Result<Option<Request>, NoMemory>
-    ensures answer { IfOk result (λ request. request ≡ command_of (map string_bytes words.now)) }
-    ensures limits { IfOk result (λ request. IfSome request IsWithinLimits) }
+fn request_of_words(alloc: Global, words: &[String]) -> Result<Option<Request>, NoMemory>
+    ensures { IfOk result (λ request. request ≡ command_of (map string_bytes words.now)) }
 {
     let [first, rest @ ..] = words else {
         return Ok(None);
@@ -123,10 +128,17 @@ pub fn read_words(alloc: Global, words: &[String]) -> Result<Option<Request>, No
         return Ok(None);
     };
     let mut reading = Reading::new(alloc);
-    for word in rest {
-        if !reading.read_word(alloc, command, word)? {
-            return Ok(None);
-        }
+    if !reading.read_all(alloc, command, rest)? {
+        return Ok(None);
     }
     finish(alloc, command, reading)
+}
+
+/// What the words of a command line ask for, or None where they are no command line. Only want of
+/// memory is an error.
+pub fn read_words(alloc: Global, words: &[String]) -> Result<Option<Request>, NoMemory>
+    ensures answer { IfOk result (λ request. request ≡ command_of (map string_bytes words.now)) }
+    ensures limits { IfOk result (λ request. IfSome request IsWithinLimits) }
+{
+    request_of_words(alloc, words)
 }

@@ -1,4 +1,5 @@
 pub mod Plans
+pub mod Planned
 pub mod Kept
 pub mod Coming
 pub mod Tables

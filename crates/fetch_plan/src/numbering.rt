@@ -108,12 +108,33 @@ impl Numbering {
         }
     }
 
+    // Notes the needs of lines, one after the other.
+    fn add_lines(&mut self, lines: &[TraceLine]) -> Result<(), NoMemory>
+        requires empty { Has self.old [] }
+        requires range { All (λ line. IsInRange line.body) lines.now }
+        ensures { OnOk result (Has self.new (needed_blocks lines.now)) }
+    {
+        for line in lines {
+            self.add_line(line)?;
+        }
+        Ok(())
+    }
+
+    // The numbers, and whether there were more needs than may be.
+    fn into_parts(self) -> (Vec<u64>, bool)
+        ensures numbers { result.0.items ≡ self.numbers.numbers }
+        ensures full { result.1 ≡ self.full }
+    {
+        (self.numbers, self.full)
+    }
+
     /// The numbers of the needs, or None where there are more than 4,000,000.
     pub fn into_numbers(self) -> Option<Vec<u64>>
         ensures some { IfSome result (λ v. (spots : List Spot) → Has self spots → (v.items ≡ numbered spots) × (length spots ≤ 4_000_000)) }
         ensures none { result ≡ None → (spots : List Spot) → Has self spots → 4_000_000 < length spots }
     {
-        if self.full { None } else { Some(self.numbers) }
+        let (numbers, full) = self.into_parts();
+        if full { None } else { Some(numbers) }
     }
 }
 
@@ -126,12 +147,12 @@ pub fn needs(alloc: Global, lines: &[TraceLine]) -> Result<Vec<u64>, NeedsFault>
     ensures many { IfErr result (λ e. e ≡ NeedsFault.TooMany → 4_000_000 < length (needed_blocks lines.now)) }
 {
     let mut numbering = Numbering::new(alloc);
-    for line in lines {
-        let Ok(()) = numbering.add_line(line) else {
-            return Err(NeedsFault::NoMemory);
-        };
-    }
-    match numbering.into_numbers() {
+    let noted = numbering.add_lines(lines);
+    let numbers = numbering.into_numbers();
+    let Ok(()) = noted else {
+        return Err(NeedsFault::NoMemory);
+    };
+    match numbers {
         Some(numbers) => Ok(numbers),
         None => Err(NeedsFault::TooMany),
     }

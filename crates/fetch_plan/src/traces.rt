@@ -1,9 +1,10 @@
 //! The least number of fetches for a whole trace.
 
-ghost use Rattle.std.specs.Prelude.{◌≡◌, ℕ, ◌<◌, ◌≤◌, List, length, Ok, Err, IfOk, IfErr};
+ghost use Rattle.std.specs.Prelude.{◌≡◌, ◌≢◌, ℕ, ◌<◌, ◌≤◌, List, [], length, Ok, Err, OnOk, IfOk, IfErr};
 ghost use Rattle.spec_base.specs.declared.spot.BlockSpot.{BlockSpot as Spot};
 ghost use Rattle.trace_text.specs.Lines.{trace_in};
 ghost use Rattle.fetch_plan.specs.Needs.{numbered};
+ghost use Rattle.fetch_plan.specs.Numbering.{Has};
 ghost use Rattle.fetch_plan.specs.Traces.{trace_needs, HasLeast};
 
 use crate::numbering::Numbering;
@@ -28,13 +29,13 @@ pub struct PlanTotals {
     pub fetches: u64,
 }
 
-// The numbers of the needs of all lines.
-fn numbers_of(alloc: Global, trace: &[u8]) -> Result<Vec<u64>, PlanFault>
-    ensures ok { IfOk result (λ v. (spots : List Spot) × (trace_needs trace.now ≡ Ok spots) × (v.items ≡ numbered spots) × (length spots ≤ 4_000_000)) }
+// Notes the needs of all lines, up to the first that is none.
+fn gather(numbering: &mut Numbering, trace: &[u8]) -> Result<(), PlanFault>
+    requires { Has numbering.old [] }
+    ensures ok { OnOk result ((spots : List Spot) × (trace_needs trace.now ≡ Ok spots) × Has numbering.new spots) }
     ensures bad_line { IfErr result (λ fault. (n : ℕ) → fault ≡ PlanFault.BadLine n → trace_in trace.now ≡ Err n) }
-    ensures many { IfErr result (λ fault. fault ≡ PlanFault.TooMany → (spots : List Spot) × (trace_needs trace.now ≡ Ok spots) × (4_000_000 < length spots)) }
+    ensures never { IfErr result (λ fault. fault ≢ PlanFault.TooMany) }
 {
-    let mut numbering = Numbering::new(alloc);
     let mut rest = trace;
     let mut number: u64 = 0;
     while let Some((bytes, more)) = cut_line(rest) {
@@ -47,7 +48,22 @@ fn numbers_of(alloc: Global, trace: &[u8]) -> Result<Vec<u64>, PlanFault>
         };
         rest = more;
     }
-    match numbering.into_numbers() {
+    Ok(())
+}
+
+// The numbers of the needs of all lines.
+fn numbers_of(alloc: Global, trace: &[u8]) -> Result<Vec<u64>, PlanFault>
+    ensures ok { IfOk result (λ v. (spots : List Spot) × (trace_needs trace.now ≡ Ok spots) × (v.items ≡ numbered spots) × (length spots ≤ 4_000_000)) }
+    ensures bad_line { IfErr result (λ fault. (n : ℕ) → fault ≡ PlanFault.BadLine n → trace_in trace.now ≡ Err n) }
+    ensures many { IfErr result (λ fault. fault ≡ PlanFault.TooMany → (spots : List Spot) × (trace_needs trace.now ≡ Ok spots) × (4_000_000 < length spots)) }
+{
+    let mut numbering = Numbering::new(alloc);
+    let gathered = gather(&mut numbering, trace);
+    let numbers = numbering.into_numbers();
+    if let Err(fault) = gathered {
+        return Err(fault);
+    }
+    match numbers {
         Some(numbers) => Ok(numbers),
         None => Err(PlanFault::TooMany),
     }

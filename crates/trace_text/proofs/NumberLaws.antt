@@ -4,8 +4,8 @@ use Rattle.std.specs.Prelude.{Option, Some, None, ◌&&◌, IsSome, IfSome, ◌�
 use Rattle.std.specs.Char.{digit_value}
 use Rattle.std.specs.Str.Parse.{digits_value_after}
 use Rattle.std.proofs.lemmas.Bool.Decides.{nat_tests}
-use Rattle.std.proofs.lemmas.Bool.{ltb-true, leb-true}
-use Rattle.std.proofs.lemmas.List.{take_more, take_more_set, take_all}
+use Rattle.std.proofs.lemmas.Bool.{ltb-true, leb-true, le-leb}
+use Rattle.std.proofs.lemmas.List.{take_more, take_more_set, take_all, drop_all}
 use Rattle.std.proofs.Math.ListN.{set}
 use Rattle.std.proofs.Math.Nat.{mul-le-mul_left}
 use Rattle.trace_text.specs.Grammar.{digit_of, are_digits, has_no_leading_zero, number_in, pairs, is_hex, is_name, name_in}
@@ -41,6 +41,12 @@ number_after-digit base most n word i few lt digit =
     ap (number_after base most n) (drop-cons word i 0 lt) ∙ number_after-cons base most n (get_or word i 0) (drop (suc i) word) few digit
     ∙ ap (λ (j : ℕ). number_after base most (n * base + digit_of (get_or word i 0)) (drop j word)) (sym (add-one i))
 
+-- the number with the digit is read behind it
+pub number_after-more : (base most n next : ℕ) (word : List ℕ) (i : ℕ) → base ≤ 16 → i < length word → digit_of (get_or word i 0) < base
+    → next ≡ n * base + digit_of (get_or word i 0) → number_after base most n (drop i word) ≡ number_after base most next (drop (i + 1) word)
+number_after-more base most n next word i few lt digit is =
+    number_after-digit base most n word i few lt digit ∙ ap (λ (m : ℕ). number_after base most m (drop (i + 1) word)) (sym is)
+
 -- any other byte refuses
 pub number_after-other : (base most n : ℕ) (word : List ℕ) (i : ℕ) → i < length word → base ≤ digit_of (get_or word i 0)
     → number_after base most n (drop i word) ≡ None
@@ -71,6 +77,14 @@ pub number_after-overflow : (base most n : ℕ) (word : List ℕ) (i : ℕ) → 
     → most < n * base + digit_of (get_or word i 0) → number_after base most n (drop i word) ≡ None
 number_after-overflow base most n word i some few lt digit over =
     number_after-digit base most n word i few lt digit ∙ number_after-over base most (n * base + digit_of (get_or word i 0)) (drop (i + 1) word) some over
+
+-- no digit is left
+pub number_after-fits : (base most n : ℕ) (word : List ℕ) (i : ℕ) → length word ≤ i → n ≤ most → number_after base most n (drop i word) ≡ Some n
+number_after-fits base most n word i past few =
+    ap (number_after base most n) (drop_all i word past) ∙ ap (λ (b : Bool). cond b (Some n) None) (le-leb n most few)
+
+pub number_after-large : (base most n : ℕ) (word : List ℕ) (i : ℕ) → 0 < base → length word ≤ i → most < n → number_after base most n (drop i word) ≡ None
+number_after-large base most n word i some past over = number_after-over base most n (drop i word) some over
 
 -- ---- pairs of digits
 

@@ -1,8 +1,8 @@
 //! What the fields behind a keyword say.
 
 ghost use Rattle.std.specs.Prelude.{◌≡◌, IfSome};
-ghost use Rattle.trace_text.specs.Grammar.{words_of, call_in, text_in, read_in, block_in, exit_in, trapped_in, parked_in, fault_in, use_in, fields_in};
-ghost use Rattle.trace_text.specs.Ranges.{IsReadInRange, IsNoteInRange, IsInRange};
+ghost use Rattle.trace_text.specs.Grammar.{words_of, read_in, block_in, fields_in};
+ghost use Rattle.trace_text.specs.Ranges.{IsReadInRange, IsInRange};
 
 use crate::keyword::{Keyword, park_named, trap_named};
 use crate::numbers::{address, answer, decimal, decimal_within, name_of, text_count};
@@ -10,41 +10,59 @@ use crate::trace_line::TraceBody;
 use crate::words::{five, one, three, two};
 use spec_base::{BlockSpot, Note, ReadSpot};
 
-#[tactic(auto, unfolding(crate::specs::Grammar::call_in))]
-fn call(fields: &[u8]) -> Option<Note>
-    ensures value { result ≡ call_in (words_of fields.now) }
-    ensures range { IfSome result IsNoteInRange }
+#[tactic(auto, unfolding(crate::specs::Grammar::fields_in, crate::specs::Grammar::call_in))]
+fn call(fields: &[u8]) -> Option<TraceBody>
+    ensures value { result ≡ fields_in Keyword.Call (words_of fields.now) }
+    ensures range { IfSome result IsInRange }
 {
-    let (first, second, third, fourth, fifth) = five(fields)?;
-    let number = decimal(first)?;
-    let a0 = decimal(second)?;
-    let a1 = decimal(third)?;
-    let a2 = decimal(fourth)?;
-    let answer = answer(fifth)?;
-    Some(Note::Call {
+    let Some((first, second, third, fourth, fifth)) = five(fields) else {
+        return None;
+    };
+    let Some(number) = decimal(first) else {
+        return None;
+    };
+    let Some(a0) = decimal(second) else {
+        return None;
+    };
+    let Some(a1) = decimal(third) else {
+        return None;
+    };
+    let Some(a2) = decimal(fourth) else {
+        return None;
+    };
+    let Some(answer) = answer(fifth) else {
+        return None;
+    };
+    Some(TraceBody::Note(Note::Call {
         number,
         a0,
         a1,
         a2,
         answer,
-    })
+    }))
 }
 
-#[tactic(auto, unfolding(crate::specs::Grammar::text_in))]
-fn text(fields: &[u8]) -> Option<Note>
-    ensures value { result ≡ text_in (words_of fields.now) }
-    ensures range { IfSome result IsNoteInRange }
+#[tactic(auto, unfolding(crate::specs::Grammar::fields_in, crate::specs::Grammar::text_in))]
+fn text(fields: &[u8]) -> Option<TraceBody>
+    ensures value { result ≡ fields_in Keyword.Text (words_of fields.now) }
+    ensures range { IfSome result IsInRange }
 {
-    let (first, second) = two(fields)?;
-    let to = decimal_within(first, 2)?;
-    let count = text_count(second)?;
+    let Some((first, second)) = two(fields) else {
+        return None;
+    };
+    let Some(to) = decimal_within(first, 2) else {
+        return None;
+    };
+    let Some(count) = text_count(second) else {
+        return None;
+    };
     if to == 0 {
         None
     } else {
-        Some(Note::Text {
+        Some(TraceBody::Note(Note::Text {
             to: to as u8,
             count,
-        })
+        }))
     }
 }
 
@@ -53,10 +71,18 @@ fn read(fields: &[u8]) -> Option<ReadSpot>
     ensures value { result ≡ read_in (words_of fields.now) }
     ensures range { IfSome result IsReadInRange }
 {
-    let (first, second, third) = three(fields)?;
-    let name = name_of(first)?;
-    let offset = decimal_within(second, (1 << 56) - 1)?;
-    let count = decimal_within(third, 65_536)?;
+    let Some((first, second, third)) = three(fields) else {
+        return None;
+    };
+    let Some(name) = name_of(first) else {
+        return None;
+    };
+    let Some(offset) = decimal_within(second, (1 << 56) - 1) else {
+        return None;
+    };
+    let Some(count) = decimal_within(third, 65_536) else {
+        return None;
+    };
     Some(ReadSpot {
         name,
         offset,
@@ -68,63 +94,89 @@ fn read(fields: &[u8]) -> Option<ReadSpot>
 fn block(fields: &[u8]) -> Option<BlockSpot>
     ensures { result ≡ block_in (words_of fields.now) }
 {
-    let (first, second) = two(fields)?;
-    let name = name_of(first)?;
-    let block = decimal_within(second, (1 << 44) - 1)?;
+    let Some((first, second)) = two(fields) else {
+        return None;
+    };
+    let Some(name) = name_of(first) else {
+        return None;
+    };
+    let Some(block) = decimal_within(second, (1 << 44) - 1) else {
+        return None;
+    };
     Some(BlockSpot { name, block })
 }
 
-#[tactic(auto, unfolding(crate::specs::Grammar::exit_in))]
-fn exit(fields: &[u8]) -> Option<Note>
-    ensures value { result ≡ exit_in (words_of fields.now) }
-    ensures range { IfSome result IsNoteInRange }
+#[tactic(auto, unfolding(crate::specs::Grammar::fields_in, crate::specs::Grammar::exit_in))]
+fn exit(fields: &[u8]) -> Option<TraceBody>
+    ensures value { result ≡ fields_in Keyword.Exit (words_of fields.now) }
+    ensures range { IfSome result IsInRange }
 {
-    let word = one(fields)?;
-    let code = decimal_within(word, 255)?;
-    Some(Note::Exit(code as u8))
+    let Some(word) = one(fields) else {
+        return None;
+    };
+    let Some(code) = decimal_within(word, 255) else {
+        return None;
+    };
+    Some(TraceBody::Note(Note::Exit(code as u8)))
 }
 
-#[tactic(auto, unfolding(crate::specs::Grammar::trapped_in))]
-fn trapped(fields: &[u8]) -> Option<Note>
-    ensures value { result ≡ trapped_in (words_of fields.now) }
-    ensures range { IfSome result IsNoteInRange }
+#[tactic(auto, unfolding(crate::specs::Grammar::fields_in, crate::specs::Grammar::trapped_in))]
+fn trapped(fields: &[u8]) -> Option<TraceBody>
+    ensures value { result ≡ fields_in Keyword.Trap (words_of fields.now) }
+    ensures range { IfSome result IsInRange }
 {
-    let (first, second) = two(fields)?;
-    let trap = trap_named(first)?;
-    let pc = address(second)?;
-    Some(Note::Trap(trap, pc))
+    let Some((first, second)) = two(fields) else {
+        return None;
+    };
+    let Some(trap) = trap_named(first) else {
+        return None;
+    };
+    let Some(pc) = address(second) else {
+        return None;
+    };
+    Some(TraceBody::Note(Note::Trap(trap, pc)))
 }
 
-#[tactic(auto, unfolding(crate::specs::Grammar::parked_in))]
-fn parked(fields: &[u8]) -> Option<Note>
-    ensures value { result ≡ parked_in (words_of fields.now) }
-    ensures range { IfSome result IsNoteInRange }
+#[tactic(auto, unfolding(crate::specs::Grammar::fields_in, crate::specs::Grammar::parked_in))]
+fn parked(fields: &[u8]) -> Option<TraceBody>
+    ensures value { result ≡ fields_in Keyword.Park (words_of fields.now) }
+    ensures range { IfSome result IsInRange }
 {
-    let word = one(fields)?;
-    let cause = park_named(word)?;
-    Some(Note::Park(cause))
+    let Some(word) = one(fields) else {
+        return None;
+    };
+    let Some(cause) = park_named(word) else {
+        return None;
+    };
+    Some(TraceBody::Note(Note::Park(cause)))
 }
 
-#[tactic(auto, unfolding(crate::specs::Grammar::fault_in))]
-fn fault(fields: &[u8]) -> Option<Note>
-    ensures value { result ≡ fault_in (words_of fields.now) }
-    ensures range { IfSome result IsNoteInRange }
+#[tactic(auto, unfolding(crate::specs::Grammar::fields_in, crate::specs::Grammar::fault_in))]
+fn fault(fields: &[u8]) -> Option<TraceBody>
+    ensures value { result ≡ fields_in Keyword.Fault (words_of fields.now) }
+    ensures range { IfSome result IsInRange }
 {
-    let word = one(fields)?;
+    let Some(word) = one(fields) else {
+        return None;
+    };
     if word == b"store".as_slice() {
-        Some(Note::Fault)
+        Some(TraceBody::Note(Note::Fault))
     } else {
         None
     }
 }
 
-#[tactic(auto, unfolding(crate::specs::Grammar::use_in))]
+#[tactic(auto, unfolding(crate::specs::Grammar::fields_in, crate::specs::Grammar::use_in))]
 fn used(fields: &[u8]) -> Option<TraceBody>
-    ensures value { result ≡ use_in (words_of fields.now) }
+    ensures value { result ≡ fields_in Keyword.Use (words_of fields.now) }
     ensures range { IfSome result IsInRange }
 {
-    let word = one(fields)?;
-    let number = decimal(word)?;
+    let Some(word) = one(fields) else {
+        return None;
+    };
+    let Some(number) = decimal(word) else {
+        return None;
+    };
     Some(TraceBody::Use(number))
 }
 
@@ -135,7 +187,10 @@ fn matched(fields: &[u8]) -> Option<TraceBody>
     ensures value { result ≡ fields_in Keyword.Match (words_of fields.now) }
     ensures range { IfSome result IsInRange }
 {
-    Some(TraceBody::Note(Note::Match(read(fields)?)))
+    match read(fields) {
+        Some(spot) => Some(TraceBody::Note(Note::Match(spot))),
+        None => None,
+    }
 }
 
 #[tactic(auto, unfolding(crate::specs::Grammar::fields_in))]
@@ -143,7 +198,10 @@ fn restarted(fields: &[u8]) -> Option<TraceBody>
     ensures value { result ≡ fields_in Keyword.Restart (words_of fields.now) }
     ensures range { IfSome result IsInRange }
 {
-    Some(TraceBody::Note(Note::Restart(read(fields)?)))
+    match read(fields) {
+        Some(spot) => Some(TraceBody::Note(Note::Restart(spot))),
+        None => None,
+    }
 }
 
 #[tactic(auto, unfolding(crate::specs::Grammar::fields_in))]
@@ -151,7 +209,10 @@ fn hinted(fields: &[u8]) -> Option<TraceBody>
     ensures value { result ≡ fields_in Keyword.Hint (words_of fields.now) }
     ensures range { IfSome result IsInRange }
 {
-    Some(TraceBody::Note(Note::Hint(read(fields)?)))
+    match read(fields) {
+        Some(spot) => Some(TraceBody::Note(Note::Hint(spot))),
+        None => None,
+    }
 }
 
 #[tactic(auto, unfolding(crate::specs::Grammar::fields_in))]
@@ -159,7 +220,10 @@ fn filled(fields: &[u8]) -> Option<TraceBody>
     ensures value { result ≡ fields_in Keyword.Fill (words_of fields.now) }
     ensures range { IfSome result IsInRange }
 {
-    Some(TraceBody::Note(Note::Fill(read(fields)?)))
+    match read(fields) {
+        Some(spot) => Some(TraceBody::Note(Note::Fill(spot))),
+        None => None,
+    }
 }
 
 #[tactic(auto, unfolding(crate::specs::Grammar::fields_in))]
@@ -167,7 +231,10 @@ fn stalled(fields: &[u8]) -> Option<TraceBody>
     ensures value { result ≡ fields_in Keyword.Stall (words_of fields.now) }
     ensures range { IfSome result IsInRange }
 {
-    Some(TraceBody::Note(Note::Stall(block(fields)?)))
+    match block(fields) {
+        Some(spot) => Some(TraceBody::Note(Note::Stall(spot))),
+        None => None,
+    }
 }
 
 #[tactic(auto, unfolding(crate::specs::Grammar::fields_in))]
@@ -175,7 +242,10 @@ fn fetched(fields: &[u8]) -> Option<TraceBody>
     ensures value { result ≡ fields_in Keyword.Fetch (words_of fields.now) }
     ensures range { IfSome result IsInRange }
 {
-    Some(TraceBody::Note(Note::Fetch(block(fields)?)))
+    match block(fields) {
+        Some(spot) => Some(TraceBody::Note(Note::Fetch(spot))),
+        None => None,
+    }
 }
 
 #[tactic(auto, unfolding(crate::specs::Grammar::fields_in))]
@@ -183,7 +253,10 @@ fn dropped(fields: &[u8]) -> Option<TraceBody>
     ensures value { result ≡ fields_in Keyword.Drop (words_of fields.now) }
     ensures range { IfSome result IsInRange }
 {
-    Some(TraceBody::Note(Note::Drop(block(fields)?)))
+    match block(fields) {
+        Some(spot) => Some(TraceBody::Note(Note::Drop(spot))),
+        None => None,
+    }
 }
 
 #[tactic(auto, unfolding(crate::specs::Grammar::fields_in))]
@@ -191,31 +264,32 @@ fn lost(fields: &[u8]) -> Option<TraceBody>
     ensures value { result ≡ fields_in Keyword.Lost (words_of fields.now) }
     ensures range { IfSome result IsInRange }
 {
-    Some(TraceBody::Note(Note::Lost(block(fields)?)))
+    match block(fields) {
+        Some(spot) => Some(TraceBody::Note(Note::Lost(spot))),
+        None => None,
+    }
 }
 
 /// What the fields behind a keyword say.
-#[tactic(auto, unfolding(crate::specs::Grammar::fields_in))]
 pub fn body_behind(keyword: Keyword, fields: &[u8]) -> Option<TraceBody>
     ensures value { result ≡ fields_in keyword (words_of fields.now) }
     ensures range { IfSome result IsInRange }
 {
-    let note = match keyword {
-        Keyword::Match => return matched(fields),
-        Keyword::Restart => return restarted(fields),
-        Keyword::Stall => return stalled(fields),
-        Keyword::Hint => return hinted(fields),
-        Keyword::Fill => return filled(fields),
-        Keyword::Fetch => return fetched(fields),
-        Keyword::Drop => return dropped(fields),
-        Keyword::Lost => return lost(fields),
-        Keyword::Use => return used(fields),
-        Keyword::Call => call(fields)?,
-        Keyword::Text => text(fields)?,
-        Keyword::Park => parked(fields)?,
-        Keyword::Exit => exit(fields)?,
-        Keyword::Trap => trapped(fields)?,
-        Keyword::Fault => fault(fields)?,
-    };
-    Some(TraceBody::Note(note))
+    match keyword {
+        Keyword::Call => call(fields),
+        Keyword::Text => text(fields),
+        Keyword::Match => matched(fields),
+        Keyword::Restart => restarted(fields),
+        Keyword::Stall => stalled(fields),
+        Keyword::Hint => hinted(fields),
+        Keyword::Fill => filled(fields),
+        Keyword::Park => parked(fields),
+        Keyword::Fetch => fetched(fields),
+        Keyword::Drop => dropped(fields),
+        Keyword::Lost => lost(fields),
+        Keyword::Exit => exit(fields),
+        Keyword::Trap => trapped(fields),
+        Keyword::Fault => fault(fields),
+        Keyword::Use => used(fields),
+    }
 }

@@ -1,13 +1,13 @@
 //! The words of which there is a fixed number: keywords, traps and park causes.
 
-ghost use Rattle.std.specs.Prelude.{◌≡◌};
+ghost use Rattle.std.specs.Prelude.{◌≡◌, bytes_eq};
 ghost use Rattle.trace_text.specs.Line.{park_name, trap_name};
 ghost use Rattle.trace_text.specs.Grammar.{keyword_in, park_in, trap_in};
 
 use spec_base::{Park, Trap};
 
 /// What the fields behind it say.
-#[derive(Clone, Copy, Debug, PartialEq, Eq)]
+#[derive(Clone, Copy)]
 pub enum Keyword {
     Call,
     Text,
@@ -26,39 +26,46 @@ pub enum Keyword {
     Use,
 }
 
+// Whether a word is this name.
+fn is(word: &[u8], name: &[u8]) -> bool
+    ensures { result ≡ bytes_eq word.now name.now }
+{
+    word == name
+}
+
 /// The keyword that a word is.
 pub fn keyword_named(word: &[u8]) -> Option<Keyword>
     ensures { result ≡ keyword_in word.now }
 {
-    if word == b"call".as_slice() {
+    if is(word, b"call") {
         Some(Keyword::Call)
-    } else if word == b"text".as_slice() {
+    } else if is(word, b"text") {
         Some(Keyword::Text)
-    } else if word == b"match".as_slice() {
+    } else if is(word, b"match") {
         Some(Keyword::Match)
-    } else if word == b"restart".as_slice() {
+    } else if is(word, b"restart") {
         Some(Keyword::Restart)
-    } else if word == b"stall".as_slice() {
+    } else if is(word, b"stall") {
         Some(Keyword::Stall)
-    } else if word == b"hint".as_slice() {
+    } else if is(word, b"hint") {
         Some(Keyword::Hint)
-    } else if word == b"fill".as_slice() {
+    } else if is(word, b"fill") {
         Some(Keyword::Fill)
-    } else if word == b"park".as_slice() {
+    } else if is(word, b"park") {
         Some(Keyword::Park)
-    } else if word == b"fetch".as_slice() {
+    } else if is(word, b"fetch") {
         Some(Keyword::Fetch)
-    } else if word == b"drop".as_slice() {
+    } else if is(word, b"drop") {
         Some(Keyword::Drop)
-    } else if word == b"lost".as_slice() {
+    } else if is(word, b"lost") {
         Some(Keyword::Lost)
-    } else if word == b"exit".as_slice() {
+    } else if is(word, b"exit") {
         Some(Keyword::Exit)
-    } else if word == b"trap".as_slice() {
+    } else if is(word, b"trap") {
         Some(Keyword::Trap)
-    } else if word == b"fault".as_slice() {
+    } else if is(word, b"fault") {
         Some(Keyword::Fault)
-    } else if word == b"use".as_slice() {
+    } else if is(word, b"use") {
         Some(Keyword::Use)
     } else {
         None
@@ -69,17 +76,17 @@ pub fn keyword_named(word: &[u8]) -> Option<Keyword>
 pub fn trap_named(word: &[u8]) -> Option<Trap>
     ensures { result ≡ trap_in word.now }
 {
-    if word == trap_text(Trap::Illegal) {
+    if is(word, trap_text(Trap::Illegal)) {
         Some(Trap::Illegal)
-    } else if word == trap_text(Trap::FetchOut) {
+    } else if is(word, trap_text(Trap::FetchOut)) {
         Some(Trap::FetchOut)
-    } else if word == trap_text(Trap::Misaligned) {
+    } else if is(word, trap_text(Trap::Misaligned)) {
         Some(Trap::Misaligned)
-    } else if word == trap_text(Trap::LoadOut) {
+    } else if is(word, trap_text(Trap::LoadOut)) {
         Some(Trap::LoadOut)
-    } else if word == trap_text(Trap::StoreOut) {
+    } else if is(word, trap_text(Trap::StoreOut)) {
         Some(Trap::StoreOut)
-    } else if word == trap_text(Trap::Break) {
+    } else if is(word, trap_text(Trap::Break)) {
         Some(Trap::Break)
     } else {
         None
@@ -90,15 +97,15 @@ pub fn trap_named(word: &[u8]) -> Option<Trap>
 pub fn park_named(word: &[u8]) -> Option<Park>
     ensures { result ≡ park_in word.now }
 {
-    if word == park_text(Park::Exit) {
+    if is(word, park_text(Park::Exit)) {
         Some(Park::Exit)
-    } else if word == park_text(Park::Fault) {
+    } else if is(word, park_text(Park::Fault)) {
         Some(Park::Fault)
-    } else if word == park_text(Park::Regions) {
+    } else if is(word, park_text(Park::Regions)) {
         Some(Park::Regions)
-    } else if word == park_text(Park::LogFull) {
+    } else if is(word, park_text(Park::LogFull)) {
         Some(Park::LogFull)
-    } else if word == park_text(Park::Store) {
+    } else if is(word, park_text(Park::Store)) {
         Some(Park::Store)
     } else {
         None

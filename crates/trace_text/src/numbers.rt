@@ -1,6 +1,6 @@
 //! Numbers and bytes in words.
 
-ghost use Rattle.std.specs.Prelude.{◌≡◌, ◌≤◌, ◌^◌, ◌-◌, ◌<◌, IfSome};
+ghost use Rattle.std.specs.Prelude.{◌≡◌, ◌≤◌, ◌^◌, ◌-◌, ◌<◌, ◌+◌, ◌*◌, IfSome, MatchOption};
 ghost use Rattle.trace_text.specs.Grammar.{digit_of, are_digits, has_no_leading_zero, is_hex, is_name, number_in, decimal_in, answer_in, address_in, name_in, text_count_in};
 
 use spec_base::Name;
@@ -28,6 +28,13 @@ fn begins_as_number(word: &[u8]) -> bool
     }
 }
 
+/// A number with one more digit, if it has 64 bits.
+fn with_digit(value: u64, base: u64, digit: u64) -> Option<u64>
+    ensures { MatchOption result (2 ^ 64 ≤ value * base + digit) (λ n. n ≡ value * base + digit) }
+{
+    value.checked_mul(base)?.checked_add(digit)
+}
+
 /// A number of at most `most` without leading zeros, in a base of at most 16.
 pub fn number(word: &[u8], base: u64, most: u64) -> Option<u64>
     requires some { 0 < base }
@@ -44,7 +51,7 @@ pub fn number(word: &[u8], base: u64, most: u64) -> Option<u64>
         if digit >= base {
             return None;
         }
-        value = value.checked_mul(base)?.checked_add(digit)?;
+        value = with_digit(value, base, digit)?;
     }
     if value <= most { Some(value) } else { None }
 }
@@ -74,7 +81,7 @@ pub fn decimal_within(word: &[u8], most: u64) -> Option<u64>
         if digit >= 10 {
             return None;
         }
-        value = value.checked_mul(10)?.checked_add(u64::from(digit))?;
+        value = with_digit(value, 10, u64::from(digit))?;
     }
     if value <= most { Some(value) } else { None }
 }

@@ -42,19 +42,26 @@ pub fn push_count(line: &mut Vec<u8>, label: &[u8], count: u64) -> Result<(), No
     Ok(())
 }
 
+fn push_text(line: &mut Vec<u8>, text: &[u8]) -> Result<(), NoMemory>
+    ensures { OnOk result (line.new.items ≡ line.old.items ++ text.now) }
+{
+    line.extend_from_slice(text)?;
+    Ok(())
+}
+
+// Adds a space and what the shadow is doing.
 fn push_state(line: &mut Vec<u8>, state: ShadowState) -> Result<(), NoMemory>
-    ensures { OnOk result (line.new.items ≡ line.old.items ++ state_text state) }
+    ensures { OnOk result (line.new.items ≡ line.old.items ++ codes " " ++ state_text state) }
 {
     match state {
-        ShadowState::Never => line.extend_from_slice(b"never")?,
-        ShadowState::Running => line.extend_from_slice(b"running")?,
-        ShadowState::Stopped => line.extend_from_slice(b"stopped")?,
+        ShadowState::Never => push_text(line, b" never"),
+        ShadowState::Running => push_text(line, b" running"),
+        ShadowState::Stopped => push_text(line, b" stopped"),
         ShadowState::Parked(cause) => {
-            line.extend_from_slice(b"parked ")?;
-            line.extend_from_slice(park_text(cause))?
+            push_text(line, b" parked ")?;
+            push_text(line, park_text(cause))
         }
     }
-    Ok(())
 }
 
 /// The report line of a run.
@@ -69,7 +76,6 @@ pub fn report(alloc: Global, counts: &Counts) -> Result<Vec<u8>, NoMemory>
     push_count(&mut line, b" hints ", counts.hints)?;
     push_count(&mut line, b" regions ", counts.regions)?;
     push_count(&mut line, b" shadow ", counts.shadow)?;
-    line.extend_from_slice(b" ")?;
     push_state(&mut line, counts.state)?;
     line.extend_from_slice(b"\n")?;
     Ok(line)

@@ -1,20 +1,19 @@
-use Rattle.std.proofs.Common.{sym, ◌∙◌}
-use Rattle.command_words.specs.Values.{read_byte}
-use Rattle.command_words.proofs.Steps.{outcome-step, outcome-refused}
-use Rattle.command_words.proofs.ValueLaws.{finished, pattern_in-begins}
+use Rattle.std.proofs.Common.{sym, ap, ◌∙◌, arith}
+use Rattle.command_words.specs.Values.{pattern_in}
+use Rattle.command_words.proofs.ValueLaws.{pattern_in-read, finished-None}
 use Rattle.command_words.proofs.pattern.read_pattern.Goals as goal
-
-pub loop-byte-init : goal.loop-byte-init
-loop-byte-init c =
-    let letter = rw c.in-Some.is at c.move_of.ensures in
-    rw (← c.as_bytes.ensures.value, c.new.ensures.items) (pattern_in-begins c.as_bytes.result.now c.in-Some.first c.in-len1-up.len_at_least letter)
 
 pub returns-then-not-branch : goal.returns-then-not-branch
 returns-then-not-branch c =
-    let refused = rw c.if-not-branch.true at c.in_ok-read_byte.ensures in
-    sym (c.loop-byte.invariant ∙ outcome-refused read_byte finished c.loop-byte.items _ c.loop-byte.byte-index 0 c.loop-byte-test.true refused)
+    let letter = rw c.in-Some.is at c.move_of.ensures in
+    let read = rw c.if-not-branch.true at c.in_ok-read_all.ensures in
+    sym (ap pattern_in (sym c.as_bytes.ensures.value)
+    ∙ pattern_in-read c.as_bytes.result.now c.in-Some.first c.new.result.items _ c.in-len1-up.len_at_least letter c.new.ensures.items read)
 
-pub loop-byte-preserved : goal.loop-byte-preserved
-loop-byte-preserved c =
-    let taken = rw c.if-not-branch.false at c.in_ok-read_byte.ensures in
-    c.loop-byte.invariant ∙ outcome-step read_byte finished c.loop-byte.items _ _ c.loop-byte.byte-index 0 c.loop-byte-test.true taken
+pub returns-in_default-2 : goal.returns-in_default-2
+returns-in_default-2 c =
+    let letter = rw c.in-Some.is at c.move_of.ensures in
+    let read = rw c.if-not-branch.false at c.in_ok-read_all.ensures in
+    sym (ap pattern_in (sym c.as_bytes.ensures.value)
+    ∙ pattern_in-read c.as_bytes.result.now c.in-Some.first c.new.result.items _ c.in-len1-up.len_at_least letter c.new.ensures.items read
+    ∙ finished-None c.read_all.new.self (sym c.in_default-2.is ∙ c.in_ok-pattern.ensures))

@@ -1,7 +1,7 @@
 use Rattle.std.proofs.Common.{◌+◌, ◌≤◌, length}
 use Rattle.fetch_plan.specs.Traces.{trace_needs}
 use Rattle.fetch_plan.proofs.Gathering.{Leads}
-use Rattle.fetch_plan.proofs.traces.numbers_of.Given as goal
+use Rattle.fetch_plan.proofs.traces.gather.Given as goal
 
 abbrev pub invariant-loop-bytes : goal.invariant-loop-bytes
 invariant-loop-bytes l = record {

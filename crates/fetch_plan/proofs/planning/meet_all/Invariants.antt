@@ -1,6 +1,6 @@
 use Rattle.std.proofs.Common.{◌≡◌, ℕ, ◌≤◌, List, drop}
 use Rattle.fetch_plan.proofs.Progress.{Progress}
-use Rattle.fetch_plan.proofs.planning.plan.Given as goal
+use Rattle.fetch_plan.proofs.planning.meet_all.Given as goal
 
 abbrev pub invariant-loop-place : goal.invariant-loop-place
 invariant-loop-place l = record {

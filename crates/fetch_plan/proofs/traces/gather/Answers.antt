@@ -1,7 +1,7 @@
 use Rattle.std.proofs.Common.{arith}
 use Rattle.fetch_plan.specs.Traces.{trace_needs}
 use Rattle.fetch_plan.proofs.Gathering.{goes_on}
-use Rattle.fetch_plan.proofs.traces.numbers_of.Goals as goal
+use Rattle.fetch_plan.proofs.traces.gather.Goals as goal
 
 pub loop-bytes-preserved : goal.loop-bytes-preserved
 loop-bytes-preserved c = record {
