@@ -1,11 +1,10 @@
 -- Numbers and patterns.
 use Rattle.std.proofs.Common.{◌≡◌, ℕ, ◌-◌, ◌<◌, ◌≤◌, ◌^◌, Bool, true, false, List, [], ◌∷◌, length, get_or, take, drop, refl, sym, ap, ◌∙◌, arith, rules}
-use Rattle.std.specs.Prelude.{Option, Some, None, Result, Ok, option_and_then, ◌&&◌, nat_le, if◌then◌else◌}
+use Rattle.std.specs.Prelude.{Option, Some, None, Result, Ok, option_and_then, ◌&&◌, if◌then◌else◌}
 use Rattle.std.specs.Char.{is_ascii_digit}
 use Rattle.std.specs.List.{list_all}
 use Rattle.std.specs.Str.Parse.{digits_value, ParsesUnsigned}
 use Rattle.std.proofs.lemmas.Bool.{leb-true}
-use Rattle.std.proofs.lemmas.Bool.Decides.{nat_tests}
 use Rattle.std.proofs.lemmas.List.{take_rest}
 use Rattle.std.proofs.lemmas.Str.Parse.{IsNumeralModel, numerals_by_value, parse_gives, digits_value_short}
 use Rattle.spec_base.specs.declared.note.Move.{Move}
@@ -56,22 +55,6 @@ pattern_in-read word first done read some letter none is =
     pattern_in-begins word first some letter
     ∙ ap (λ (d : Pattern). outcome read_byte finished (record { done = d; current = first; count = 0 }) (take (length word - 1) (drop 1 word))) (sym none)
     ∙ ap (option_and_then finished) (sym is)
-
-pub pattern_in-other : (word : List ℕ) → 0 < length word → None ≡ move_of (get_or word 0 0) → pattern_in word ≡ None
-unfolding pattern_in
-pattern_in-other [] some letter = absurd (omega arith)
-pattern_in-other (c ∷ cs) some letter =
-    ap (λ o. option_and_then (λ move. outcome read_byte finished (record { done = []; current = move; count = 0 }) cs) o) (sym letter)
-
-pub finished-short : (items : Items) (pattern : Pattern) → Some pattern ≡ whole_items items → length pattern ≤ 65_536 → finished items ≡ Some pattern
-finished-short items pattern whole short =
-    let holds : nat_le (length pattern) 65_536 ≡ true = grind (arith, nat_tests) in
-    ap (option_and_then at_most_65_536) (sym whole) ∙ ap (λ (b : Bool). if b then Some pattern else None) holds
-
-pub finished-long : (items : Items) (pattern : Pattern) → Some pattern ≡ whole_items items → 65_536 < length pattern → finished items ≡ None
-finished-long items pattern whole long =
-    let fails : nat_le (length pattern) 65_536 ≡ false = grind (arith, nat_tests) in
-    ap (option_and_then at_most_65_536) (sym whole) ∙ ap (λ (b : Bool). if b then Some pattern else None) fails
 
 pub finished-None : (items : Items) → None ≡ whole_items items → finished items ≡ None
 finished-None items whole = ap (option_and_then at_most_65_536) (sym whole)

@@ -66,12 +66,6 @@ length-numbers n spots e = omega (arith, ap (λ m. length m.numbers) e, length-a
 pub length-numbered : (spots : List BlockSpot) → length (numbered spots) ≡ length spots
 length-numbered spots = length-numbers (all_noted no_numbers spots) spots refl
 
--- more needs are still too many
-pub Has-past : (n : Noted) (spots : List BlockSpot) (spot : BlockSpot) → n.full ≡ true → Has n spots → Has n (spots ++ spot ∷ [])
-Has-past n spots spot full has =
-    let many : 4_000_000 < length spots = subst (λ b. HasIf b n.numbers spots) full has in
-    subst (λ b. HasIf b n.numbers (spots ++ spot ∷ [])) (sym full) (omega (arith, many, length-append spots (spot ∷ [])))
-
 -- one more than may be
 pub Has-full : (n : Noted) (spots : List BlockSpot) (spot : BlockSpot) → n.full ≡ false → 4_000_000 ≤ length n.numbers.numbers → Has n spots → Has (record n { full = true }) (spots ++ spot ∷ [])
 Has-full n spots spot free most has =

@@ -4,7 +4,7 @@ use Rattle.std.specs.Prelude.{Option, Some, None, ◌&&◌, IsSome, IfSome, ◌�
 use Rattle.std.specs.Char.{digit_value}
 use Rattle.std.specs.Str.Parse.{digits_value_after}
 use Rattle.std.proofs.lemmas.Bool.Decides.{nat_tests}
-use Rattle.std.proofs.lemmas.Bool.{ltb-true, leb-true, le-leb}
+use Rattle.std.proofs.lemmas.Bool.{leb-true, le-leb}
 use Rattle.std.proofs.lemmas.List.{take_more, take_more_set, take_all, drop_all}
 use Rattle.std.proofs.Math.ListN.{set}
 use Rattle.std.proofs.Math.Nat.{mul-le-mul_left}
@@ -95,11 +95,6 @@ and-left false b h = h
 pub and-right : (a b : Bool) → (a && b) ≡ true → b ≡ true
 and-right true b h = h
 and-right false b h = absurd cc
-
-pub digit-at : (base : ℕ) (word : List ℕ) (i : ℕ) → are_digits base word ≡ true → i < length word → digit_of (get_or word i 0) < base
-digit-at base [] i all lt = absurd (omega arith)
-digit-at base (c ∷ cs) zero all lt = ltb-true (digit_of c) base (and-left (ltb (digit_of c) base) (are_digits base cs) all)
-digit-at base (c ∷ cs) (suc i) all lt = digit-at base cs i (and-right (ltb (digit_of c) base) (are_digits base cs) all) (omega arith)
 
 pub length-pairs : (word : List ℕ) → length (pairs word) ≡ length word / 2
 unfolding pairs

@@ -3,7 +3,7 @@ use Rattle.std.proofs.Common.{◌≡◌, ◌≢◌, ℕ, zero, suc, ◌+◌, ◌
 use Rattle.std.specs.Prelude.{None, option_map}
 use Rattle.std.proofs.lemmas.List.{take_all}
 use Rattle.std.proofs.lemmas.Bool.Decides.{nat_tests}
-use Rattle.trace_text.specs.Grammar.{words_of, with_first, one_word, two_words, three_words, five_words}
+use Rattle.trace_text.specs.Grammar.{words_of, with_first, one_word, three_words, five_words}
 
 -- a byte that is no space begins the first word
 pub words_of-other : (c : ℕ) (cs : List ℕ) → c ≢ 32 → words_of (c ∷ cs) ≡ with_first c (words_of cs)
@@ -27,17 +27,6 @@ words_of-first [] i lt is none = absurd (omega arith)
 words_of-first (c ∷ cs) zero lt is none = words_of-space c cs is
 words_of-first (c ∷ cs) (suc i) lt is none =
     words_of-other c cs (none 0 (omega arith)) ∙ ap (with_first c) (words_of-first cs i (omega arith) is (λ k l. none (suc k) (omega arith)))
-
-pub two_words-cons : (a : List ℕ) (ws : List (List ℕ)) → two_words (a ∷ ws) ≡ option_map (λ b. (a, b)) (one_word ws)
-two_words-cons a [] = refl
-two_words-cons a (b ∷ []) = refl
-two_words-cons a (b ∷ c ∷ ws) = refl
-
-pub three_words-cons : (a : List ℕ) (ws : List (List ℕ)) → three_words (a ∷ ws) ≡ option_map (λ w. (a, w.0, w.1)) (two_words ws)
-three_words-cons a [] = refl
-three_words-cons a (b ∷ []) = refl
-three_words-cons a (b ∷ c ∷ []) = refl
-three_words-cons a (b ∷ c ∷ d ∷ ws) = refl
 
 pub five_words-cons : (a b : List ℕ) (ws : List (List ℕ)) → five_words (a ∷ b ∷ ws) ≡ option_map (λ w. (a, b, w.0, w.1, w.2)) (three_words ws)
 five_words-cons a b [] = refl
