@@ -11,7 +11,7 @@ mod stores;
 mod traces;
 mod uses;
 
-use commands::{Row, first_wrong, is_told, over_reads, plain};
+use commands::{Row, first_wrong, is_told, over_reads, told_by};
 use elf_image::Refusal;
 use images::{EXITS, image};
 use spec_base::Trap;
@@ -46,7 +46,7 @@ fn a_program_ends(rt: HostRuntime) -> Result<(), Fail> {
         (&ILLEGAL, 126, b"", b"spechint: trap Illegal at 0x10078\n"),
     ];
     for (words, code, out, err) in rows {
-        let told = plain(alloc, &image(alloc, words)?)?;
+        let told = told_by(alloc, "plain", &image(alloc, words)?)?;
         assert!(rt; is_told(&told, code, out, err), "{words:?}");
     }
     Ok(())
@@ -135,7 +135,7 @@ fn each_call_has_its_answer(rt: HostRuntime) -> Result<(), Fail> {
         (1, 0x0000_0513, 218),
     ];
     for (number, set, code) in rows {
-        let told = plain(alloc, &call(alloc, number, set)?)?;
+        let told = told_by(alloc, "plain", &call(alloc, number, set)?)?;
         assert!(rt; is_told(&told, code, b"", b""), "{number}");
     }
     Ok(())

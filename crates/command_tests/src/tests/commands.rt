@@ -109,9 +109,9 @@ pub fn command(
     command_over(alloc, words, file, data, fails, out, err)
 }
 
-/// What `plain w1` comes to.
-pub fn plain(alloc: Global, file: &[u8]) -> Result<Told, Fail> {
-    command(alloc, &["plain", "w1"], file, b"", &[], &[])
+/// What a command without options comes to over a file and no data.
+pub fn told_by(alloc: Global, verb: &str, file: &[u8]) -> Result<Told, Fail> {
+    command(alloc, &[verb, "w1"], file, b"", &[], &[])
 }
 
 /// What a command line comes to over a program that reads 64 bytes of each of the 40 blocks of `data`.

@@ -1,6 +1,6 @@
 //! Files in the shape of a GNU link, and files that are cut off.
 
-use super::commands::{command, is_told, plain};
+use super::commands::{is_told, told_by};
 use super::images::{EXITS, image, linked};
 use std::alloc::Global;
 use std::test::Fail;
@@ -38,9 +38,9 @@ fn the_sections_tell_text_from_data(rt: HostRuntime) -> Result<(), Fail> {
     let with = linked(alloc, &PUTS_A_STRING, 3)?;
     let without = linked(alloc, &PUTS_A_STRING, 0)?;
     for verb in ["plain", "run"] {
-        let told = command(alloc, &[verb, "w1"], &with, b"", &[], &[])?;
+        let told = told_by(alloc, verb, &with)?;
         assert!(rt; is_told(&told, 0, b"hi\n", b""), "{verb}");
-        let told = command(alloc, &[verb, "w1"], &without, b"", &[], &[])?;
+        let told = told_by(alloc, verb, &without)?;
         assert!(rt;
             is_told(&told, 126, b"", b"spechint: trap LoadOut at 0x100f0\n"),
             "{verb}"
@@ -55,7 +55,7 @@ fn a_program_sees_the_header_of_its_own_file(rt: HostRuntime) -> Result<(), Fail
     let file = linked(alloc, &PUTS_THE_HEADER, 3)?;
     let header = file.get(..64).unwrap_or(&[]);
     for verb in ["plain", "run"] {
-        let told = command(alloc, &[verb, "w1"], &file, b"", &[], &[])?;
+        let told = told_by(alloc, verb, &file)?;
         assert!(rt; is_told(&told, 0, header, b""), "{verb}");
     }
     Ok(())
@@ -78,7 +78,7 @@ fn first_wrong_length(
     err: &[u8],
 ) -> Result<Option<usize>, Fail> {
     for length in from..to {
-        let told = plain(alloc, file.get(..length).unwrap_or(&[]))?;
+        let told = told_by(alloc, "plain", file.get(..length).unwrap_or(&[]))?;
         if !is_told(&told, 121, b"", err) {
             return Ok(Some(length));
         }

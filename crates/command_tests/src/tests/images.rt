@@ -27,6 +27,29 @@ pub fn image_with_data(alloc: Global, words: &[u32]) -> Result<Vec<u8>, Fail> {
     Ok(two_segments(alloc, words)?)
 }
 
+// Opens `data`, and reads its first 4,096 bytes.
+const READS_A_BLOCK: [u32; 11] = [
+    0x0020_0437, // lui x8,0x200
+    0x0004_0593, // addi x11,x8,0
+    0x0000_0613, // addi x12,x0,0
+    0x0380_0893, // addi x17,x0,56
+    0x0000_0073, // ecall
+    0x0005_0493, // addi x9,x10,0
+    0x0004_8513, // addi x10,x9,0
+    0x0020_15B7, // lui x11,0x201
+    0x0000_1637, // lui x12,1
+    0x03F0_0893, // addi x17,x0,63
+    0x0000_0073, // ecall
+];
+
+/// The image of a program that opens `data`, keeps its descriptor in x9, reads its first 4,096 bytes to 0x201000, where
+/// x11 points, and then has these words.
+pub fn behind_a_read(alloc: Global, words: &[u32]) -> Result<Vec<u8>, Fail> {
+    let mut all = READS_A_BLOCK.to_vec(alloc)?;
+    all.extend_from_slice(words)?;
+    image_with_data(alloc, &all)
+}
+
 /// The program of the command `demo`, with no instruction that only counts: it reads 64 bytes of each of the 40 blocks of
 /// the file `data`, and then puts `done` and a newline.
 pub fn reads(alloc: Global) -> Result<Vec<u8>, Fail> {

@@ -1,7 +1,7 @@
 //! Programs that reach for the address space of a rewritten program behind the program range.
 
 use super::commands::{command, is_told};
-use super::images::{image, image_with_data};
+use super::images::{behind_a_read, image};
 use std::test::Fail;
 
 // The first words of a text at 0x10078, and the text of its trap.
@@ -61,26 +61,7 @@ fn nothing_behind_the_program_range_is_the_programs(rt: HostRuntime) -> Result<(
     Ok(())
 }
 
-// Reads the first block of `data`, which starts the shadow, and then has these two words.
-fn behind_a_read(words: &[u32; 2]) -> [u32; 13] {
-    [
-        0x0020_0437, // lui x8,0x200
-        0x0004_0593, // addi x11,x8,0
-        0x0000_0613, // addi x12,x0,0
-        0x0380_0893, // addi x17,x0,56
-        0x0000_0073, // ecall
-        0x0005_0493, // addi x9,x10,0
-        0x0004_8513, // addi x10,x9,0
-        0x0020_15B7, // lui x11,0x201
-        0x0000_1637, // lui x12,1
-        0x03F0_0893, // addi x17,x0,63
-        0x0000_0073, // ecall
-        words[0],
-        words[1],
-    ]
-}
-
-// Such words behind a read, and what the report and the trap are then.
+// Such words behind a read, which starts the shadow, and what the report and the trap are then.
 const REACHES_BEHIND: [([u32; 2], &[u8]); 4] = [
     (
         [0x4200_02B7, 0x0002_B303], // lui x5,0x42000; ld x6,0(x5)
@@ -104,7 +85,7 @@ const REACHES_BEHIND: [([u32; 2], &[u8]); 4] = [
 fn a_shadow_that_reaches_behind_it_is_parked(rt: HostRuntime) -> Result<(), Fail> {
     let alloc = rt.alloc();
     for (words, err) in &REACHES_BEHIND {
-        let file = image_with_data(alloc, &behind_a_read(words))?;
+        let file = behind_a_read(alloc, words)?;
         let told = command(
             alloc,
             &["run", "--report", "w1"],

@@ -1,27 +1,11 @@
 //! Traces and reports of small programs that read, worked out by hand from the order of their moves.
 
 use super::commands::{command, is_told};
-use super::images::image_with_data;
-use std::alloc::Global;
+use super::images::{behind_a_read, image_with_data};
 use std::test::Fail;
 
-// Opens `data`.
-const OPENS: [u32; 6] = [
-    0x0020_0437, // lui x8,0x200
-    0x0004_0593, // addi x11,x8,0
-    0x0000_0613, // addi x12,x0,0
-    0x0380_0893, // addi x17,x0,56
-    0x0000_0073, // ecall
-    0x0005_0493, // addi x9,x10,0
-];
-
-// Reads 4,096 bytes three times, and exits with what the last read gave.
-const READS_THRICE: [u32; 11] = [
-    0x0004_8513, // addi x10,x9,0
-    0x0020_15B7, // lui x11,0x201
-    0x0000_1637, // lui x12,1
-    0x03F0_0893, // addi x17,x0,63
-    0x0000_0073, // ecall
+// Behind a read: reads 4,096 bytes twice more, and exits with what the last read gave.
+const READS_TWICE: [u32; 6] = [
     0x0004_8513, // addi x10,x9,0
     0x0000_0073, // ecall
     0x0004_8513, // addi x10,x9,0
@@ -30,21 +14,23 @@ const READS_THRICE: [u32; 11] = [
     0x0000_0073, // ecall
 ];
 
-// Reads 4,096 bytes, stores to two regions, and exits.
-const READS_AND_STORES: [u32; 9] = [
-    0x0004_8513, // addi x10,x9,0
-    0x0020_15B7, // lui x11,0x201
-    0x0000_1637, // lui x12,1
-    0x03F0_0893, // addi x17,x0,63
-    0x0000_0073, // ecall
+// Behind a read: stores to two regions, and exits.
+const STORES_TWICE: [u32; 4] = [
     0x0004_3023, // sd x0,0(x8)
     0x1004_3023, // sd x0,256(x8)
     0x05D0_0893, // addi x17,x0,93
     0x0000_0073, // ecall
 ];
 
-// Reads 64 bytes, seeks back and reads them again, reads as many as their first says, and exits with their number.
-const READS_AS_TOLD: [u32; 19] = [
+// Opens `data`, reads 64 bytes, seeks back and reads them again, reads as many as their first says, and exits with
+// their number.
+const READS_AS_TOLD: [u32; 25] = [
+    0x0020_0437, // lui x8,0x200
+    0x0004_0593, // addi x11,x8,0
+    0x0000_0613, // addi x12,x0,0
+    0x0380_0893, // addi x17,x0,56
+    0x0000_0073, // ecall
+    0x0005_0493, // addi x9,x10,0
     0x0020_15B7, // lui x11,0x201
     0x0400_0613, // addi x12,x0,64
     0x03F0_0893, // addi x17,x0,63
@@ -65,13 +51,6 @@ const READS_AS_TOLD: [u32; 19] = [
     0x05D0_0893, // addi x17,x0,93
     0x0000_0073, // ecall
 ];
-
-// The image of a program that opens `data`, and then has these words.
-fn reading(alloc: Global, words: &[u32]) -> Result<Vec<u8>, Fail> {
-    let mut all = OPENS.to_vec(alloc)?;
-    all.extend_from_slice(words)?;
-    image_with_data(alloc, &all)
-}
 
 // The shadow never moves, so that each read restarts it.
 const STANDING: &[u8] = b"5 0 call 56 0 2097152 0 3\n\
@@ -116,44 +95,50 @@ const FILLS: &[u8] = b"5 0 call 56 0 2097152 0 3\n\
     23 5 call 63 3 2101248 7 7\n\
     25 5 exit 7\n";
 
-// What a command line comes to over a program and `data` of 5,000 bytes, each 7.
+// Words behind a read, a command line, the code, and what is put on both outputs.
 type Row = (
-    &'static [&'static str],
     &'static [u32],
+    &'static [&'static str],
     u8,
     &'static [u8],
     &'static [u8],
 );
 
-const ROWS: [Row; 6] = [
+const ROWS: [Row; 3] = [
     (
+        &READS_TWICE,
         &["trace", "--pattern", "O1D1", "w1"],
-        &READS_THRICE,
         0,
         STANDING,
         b"",
     ),
-    (&["run", "--report", "w1"], &READS_THRICE, 0, b"", HINTED),
+    (&READS_TWICE, &["run", "--report", "w1"], 0, b"", HINTED),
     (
+        &STORES_TWICE,
         &["run", "--regions", "1", "--report", "w1"],
-        &READS_AND_STORES,
         0,
         b"",
         PARKED,
     ),
+];
+
+#[test]
+fn a_program_that_reads_is_told(rt: HostRuntime) -> Result<(), Fail> {
+    let alloc = rt.alloc();
+    let data = vec![in alloc; 7u8; 5_000]?;
+    for (words, line, code, out, err) in ROWS {
+        let told = command(alloc, line, &behind_a_read(alloc, words)?, &data, &[], &[])?;
+        assert!(rt; is_told(&told, code, out, err), "{line:?}");
+    }
+    Ok(())
+}
+
+// Command lines, and what is put on both outputs.
+const FILLINGS: [(&[&str], &[u8], &[u8]); 3] = [
     (
         &["run", "--report", "--pattern=O72D1O71S1000O1000", "w1"],
-        &READS_AS_TOLD,
-        7,
         b"",
         FILLED,
-    ),
-    (
-        &["trace", "--pattern=O72D1O71S1000O1000", "w1"],
-        &READS_AS_TOLD,
-        7,
-        FILLS,
-        b"",
     ),
     (
         &[
@@ -163,20 +148,20 @@ const ROWS: [Row; 6] = [
             "--regions=1",
             "w1",
         ],
-        &READS_AS_TOLD,
-        7,
         b"",
         FILLED,
     ),
+    (&["trace", "--pattern=O72D1O71S1000O1000", "w1"], FILLS, b""),
 ];
 
 #[test]
-fn a_program_that_reads_is_told(rt: HostRuntime) -> Result<(), Fail> {
+fn a_filled_read_is_told(rt: HostRuntime) -> Result<(), Fail> {
     let alloc = rt.alloc();
+    let file = image_with_data(alloc, &READS_AS_TOLD)?;
     let data = vec![in alloc; 7u8; 5_000]?;
-    for (line, words, code, out, err) in ROWS {
-        let told = command(alloc, line, &reading(alloc, words)?, &data, &[], &[])?;
-        assert!(rt; is_told(&told, code, out, err), "{line:?}");
+    for (line, out, err) in FILLINGS {
+        let told = command(alloc, line, &file, &data, &[], &[])?;
+        assert!(rt; is_told(&told, 7, out, err), "{line:?}");
     }
     Ok(())
 }

@@ -1,6 +1,6 @@
 //! Rewriting a file, and running one that was rewritten.
 
-use super::commands::{Told, command, is_told};
+use super::commands::{Told, command, is_told, told_by};
 use super::images::{EXITS, image};
 use std::alloc::Global;
 use std::test::Fail;
@@ -29,14 +29,14 @@ const ALREADY: &[u8] = b"spechint: w1: refused: E12 Already\n";
 fn a_rewritten_file_runs_as_it_is(rt: HostRuntime) -> Result<(), Fail> {
     let alloc = rt.alloc();
     let mut file = rewriting(alloc, &[])?.out;
-    let told = command(alloc, &["run", "w1"], &file, b"", &[], &[])?;
+    let told = told_by(alloc, "run", &file)?;
     assert!(rt; is_told(&told, 7, b"", b""));
-    let told = command(alloc, &["rewrite", "w1"], &file, b"", &[], &[])?;
+    let told = told_by(alloc, "rewrite", &file)?;
     assert!(rt; is_told(&told, 121, b"", ALREADY));
     if let Some(byte) = file.get_mut(9000) {
         *byte ^= 1;
     }
-    let told = command(alloc, &["run", "w1"], &file, b"", &[], &[])?;
+    let told = told_by(alloc, "run", &file)?;
     assert!(rt; is_told(&told, 121, b"", ALREADY));
     Ok(())
 }

@@ -1,31 +1,14 @@
 //! The first uses in a trace, over a store and two outputs in memory.
 
 use super::commands::{Told, command};
-use super::images::image_with_data;
+use super::images::behind_a_read;
 use std::alloc::Global;
 use std::test::Fail;
 
-// Reads the first block of `data`, loads a byte of it by this word, and exits with x10.
+// Loads a byte of what was read by this word, and exits with x10.
 fn loading(alloc: Global, load: u32) -> Result<Vec<u8>, Fail> {
-    image_with_data(
-        alloc,
-        &[
-            0x0020_0437, // lui x8,0x200
-            0x0004_0593, // addi x11,x8,0
-            0x0000_0613, // addi x12,x0,0
-            0x0380_0893, // addi x17,x0,56
-            0x0000_0073, // ecall
-            0x0005_0493, // addi x9,x10,0
-            0x0004_8513, // addi x10,x9,0
-            0x0020_15B7, // lui x11,0x201
-            0x0000_1637, // lui x12,1
-            0x03F0_0893, // addi x17,x0,63
-            0x0000_0073, // ecall
-            load,
-            0x05D0_0893, // addi x17,x0,93
-            0x0000_0073, // ecall
-        ],
-    )
+    // addi x17,x0,93; ecall
+    behind_a_read(alloc, &[load, 0x05D0_0893, 0x0000_0073])
 }
 
 // What a command line comes to over a program that loads by this word, and `data` of two blocks.
@@ -53,21 +36,10 @@ fn a_trace_tells_the_first_use(rt: HostRuntime) -> Result<(), Fail> {
     Ok(())
 }
 
-// Reads the first block of `data`, seeks to the block that its first byte names, reads there, and exits with
-// the byte that it then loads. The shadow's seek rests on the byte that it skipped, so that the second read
-// restarts it: the seek is instruction 8 from the first restart, the exit is instruction 4 from the second.
-const SEEKS_BY_A_BYTE: [u32; 26] = [
-    0x0020_0437, // lui x8,0x200
-    0x0004_0593, // addi x11,x8,0
-    0x0000_0613, // addi x12,x0,0
-    0x0380_0893, // addi x17,x0,56
-    0x0000_0073, // ecall
-    0x0005_0493, // addi x9,x10,0
-    0x0004_8513, // addi x10,x9,0
-    0x0020_15B7, // lui x11,0x201
-    0x0000_1637, // lui x12,1
-    0x03F0_0893, // addi x17,x0,63
-    0x0000_0073, // ecall: the read that restarts the shadow
+// Seeks to the block that the first byte of the first block names, reads there, and exits with the byte that it then
+// loads. The shadow's seek rests on the byte that it skipped, so that the second read restarts it: the seek is
+// instruction 8 from the first restart, the exit is instruction 4 from the second.
+const SEEKS_BY_A_BYTE: [u32; 15] = [
     0x0005_C283, // lbu x5,0(x11)
     0x00C2_9293, // slli x5,x5,12
     0x0002_8593, // addi x11,x5,0
@@ -88,7 +60,7 @@ const SEEKS_BY_A_BYTE: [u32; 26] = [
 #[test]
 fn a_trace_tells_the_first_use_of_each_restart(rt: HostRuntime) -> Result<(), Fail> {
     let alloc = rt.alloc();
-    let file = image_with_data(alloc, &SEEKS_BY_A_BYTE)?;
+    let file = behind_a_read(alloc, &SEEKS_BY_A_BYTE)?;
     let data = vec![in alloc; 7u8; 163_840]?;
     let told = command(alloc, &["trace", "--uses", "w1"], &file, &data, &[], &[])?;
     assert_eq!(rt; told.status.code(), 7);
