@@ -15,24 +15,12 @@ fn call(fields: &[u8]) -> Option<TraceBody>
     ensures value { result ≡ fields_in Keyword.Call (words_of fields.now) }
     ensures range { IfSome result IsInRange }
 {
-    let Some((first, second, third, fourth, fifth)) = five(fields) else {
-        return None;
-    };
-    let Some(number) = decimal(first) else {
-        return None;
-    };
-    let Some(a0) = decimal(second) else {
-        return None;
-    };
-    let Some(a1) = decimal(third) else {
-        return None;
-    };
-    let Some(a2) = decimal(fourth) else {
-        return None;
-    };
-    let Some(answer) = answer(fifth) else {
-        return None;
-    };
+    let (first, second, third, fourth, fifth) = five(fields)?;
+    let number = decimal(first)?;
+    let a0 = decimal(second)?;
+    let a1 = decimal(third)?;
+    let a2 = decimal(fourth)?;
+    let answer = answer(fifth)?;
     Some(TraceBody::Note(Note::Call {
         number,
         a0,
@@ -47,15 +35,9 @@ fn text(fields: &[u8]) -> Option<TraceBody>
     ensures value { result ≡ fields_in Keyword.Text (words_of fields.now) }
     ensures range { IfSome result IsInRange }
 {
-    let Some((first, second)) = two(fields) else {
-        return None;
-    };
-    let Some(to) = decimal_within(first, 2) else {
-        return None;
-    };
-    let Some(count) = text_count(second) else {
-        return None;
-    };
+    let (first, second) = two(fields)?;
+    let to = decimal_within(first, 2)?;
+    let count = text_count(second)?;
     if to == 0 {
         None
     } else {
@@ -71,18 +53,10 @@ fn read(fields: &[u8]) -> Option<ReadSpot>
     ensures value { result ≡ read_in (words_of fields.now) }
     ensures range { IfSome result IsReadInRange }
 {
-    let Some((first, second, third)) = three(fields) else {
-        return None;
-    };
-    let Some(name) = name_of(first) else {
-        return None;
-    };
-    let Some(offset) = decimal_within(second, (1 << 56) - 1) else {
-        return None;
-    };
-    let Some(count) = decimal_within(third, 65_536) else {
-        return None;
-    };
+    let (first, second, third) = three(fields)?;
+    let name = name_of(first)?;
+    let offset = decimal_within(second, (1 << 56) - 1)?;
+    let count = decimal_within(third, 65_536)?;
     Some(ReadSpot {
         name,
         offset,
@@ -94,15 +68,9 @@ fn read(fields: &[u8]) -> Option<ReadSpot>
 fn block(fields: &[u8]) -> Option<BlockSpot>
     ensures { result ≡ block_in (words_of fields.now) }
 {
-    let Some((first, second)) = two(fields) else {
-        return None;
-    };
-    let Some(name) = name_of(first) else {
-        return None;
-    };
-    let Some(block) = decimal_within(second, (1 << 44) - 1) else {
-        return None;
-    };
+    let (first, second) = two(fields)?;
+    let name = name_of(first)?;
+    let block = decimal_within(second, (1 << 44) - 1)?;
     Some(BlockSpot { name, block })
 }
 
@@ -111,12 +79,8 @@ fn exit(fields: &[u8]) -> Option<TraceBody>
     ensures value { result ≡ fields_in Keyword.Exit (words_of fields.now) }
     ensures range { IfSome result IsInRange }
 {
-    let Some(word) = one(fields) else {
-        return None;
-    };
-    let Some(code) = decimal_within(word, 255) else {
-        return None;
-    };
+    let word = one(fields)?;
+    let code = decimal_within(word, 255)?;
     Some(TraceBody::Note(Note::Exit(code as u8)))
 }
 
@@ -125,15 +89,9 @@ fn trapped(fields: &[u8]) -> Option<TraceBody>
     ensures value { result ≡ fields_in Keyword.Trap (words_of fields.now) }
     ensures range { IfSome result IsInRange }
 {
-    let Some((first, second)) = two(fields) else {
-        return None;
-    };
-    let Some(trap) = trap_named(first) else {
-        return None;
-    };
-    let Some(pc) = address(second) else {
-        return None;
-    };
+    let (first, second) = two(fields)?;
+    let trap = trap_named(first)?;
+    let pc = address(second)?;
     Some(TraceBody::Note(Note::Trap(trap, pc)))
 }
 
@@ -142,12 +100,8 @@ fn parked(fields: &[u8]) -> Option<TraceBody>
     ensures value { result ≡ fields_in Keyword.Park (words_of fields.now) }
     ensures range { IfSome result IsInRange }
 {
-    let Some(word) = one(fields) else {
-        return None;
-    };
-    let Some(cause) = park_named(word) else {
-        return None;
-    };
+    let word = one(fields)?;
+    let cause = park_named(word)?;
     Some(TraceBody::Note(Note::Park(cause)))
 }
 
@@ -156,9 +110,7 @@ fn fault(fields: &[u8]) -> Option<TraceBody>
     ensures value { result ≡ fields_in Keyword.Fault (words_of fields.now) }
     ensures range { IfSome result IsInRange }
 {
-    let Some(word) = one(fields) else {
-        return None;
-    };
+    let word = one(fields)?;
     if word == b"store".as_slice() {
         Some(TraceBody::Note(Note::Fault))
     } else {
@@ -171,12 +123,8 @@ fn used(fields: &[u8]) -> Option<TraceBody>
     ensures value { result ≡ fields_in Keyword.Use (words_of fields.now) }
     ensures range { IfSome result IsInRange }
 {
-    let Some(word) = one(fields) else {
-        return None;
-    };
-    let Some(number) = decimal(word) else {
-        return None;
-    };
+    let word = one(fields)?;
+    let number = decimal(word)?;
     Some(TraceBody::Use(number))
 }
 
@@ -187,10 +135,7 @@ fn matched(fields: &[u8]) -> Option<TraceBody>
     ensures value { result ≡ fields_in Keyword.Match (words_of fields.now) }
     ensures range { IfSome result IsInRange }
 {
-    match read(fields) {
-        Some(spot) => Some(TraceBody::Note(Note::Match(spot))),
-        None => None,
-    }
+    Some(TraceBody::Note(Note::Match(read(fields)?)))
 }
 
 #[tactic(auto, unfolding(crate::specs::Grammar::fields_in))]
@@ -198,10 +143,7 @@ fn restarted(fields: &[u8]) -> Option<TraceBody>
     ensures value { result ≡ fields_in Keyword.Restart (words_of fields.now) }
     ensures range { IfSome result IsInRange }
 {
-    match read(fields) {
-        Some(spot) => Some(TraceBody::Note(Note::Restart(spot))),
-        None => None,
-    }
+    Some(TraceBody::Note(Note::Restart(read(fields)?)))
 }
 
 #[tactic(auto, unfolding(crate::specs::Grammar::fields_in))]
@@ -209,10 +151,7 @@ fn hinted(fields: &[u8]) -> Option<TraceBody>
     ensures value { result ≡ fields_in Keyword.Hint (words_of fields.now) }
     ensures range { IfSome result IsInRange }
 {
-    match read(fields) {
-        Some(spot) => Some(TraceBody::Note(Note::Hint(spot))),
-        None => None,
-    }
+    Some(TraceBody::Note(Note::Hint(read(fields)?)))
 }
 
 #[tactic(auto, unfolding(crate::specs::Grammar::fields_in))]
@@ -220,10 +159,7 @@ fn filled(fields: &[u8]) -> Option<TraceBody>
     ensures value { result ≡ fields_in Keyword.Fill (words_of fields.now) }
     ensures range { IfSome result IsInRange }
 {
-    match read(fields) {
-        Some(spot) => Some(TraceBody::Note(Note::Fill(spot))),
-        None => None,
-    }
+    Some(TraceBody::Note(Note::Fill(read(fields)?)))
 }
 
 #[tactic(auto, unfolding(crate::specs::Grammar::fields_in))]
@@ -231,10 +167,7 @@ fn stalled(fields: &[u8]) -> Option<TraceBody>
     ensures value { result ≡ fields_in Keyword.Stall (words_of fields.now) }
     ensures range { IfSome result IsInRange }
 {
-    match block(fields) {
-        Some(spot) => Some(TraceBody::Note(Note::Stall(spot))),
-        None => None,
-    }
+    Some(TraceBody::Note(Note::Stall(block(fields)?)))
 }
 
 #[tactic(auto, unfolding(crate::specs::Grammar::fields_in))]
@@ -242,10 +175,7 @@ fn fetched(fields: &[u8]) -> Option<TraceBody>
     ensures value { result ≡ fields_in Keyword.Fetch (words_of fields.now) }
     ensures range { IfSome result IsInRange }
 {
-    match block(fields) {
-        Some(spot) => Some(TraceBody::Note(Note::Fetch(spot))),
-        None => None,
-    }
+    Some(TraceBody::Note(Note::Fetch(block(fields)?)))
 }
 
 #[tactic(auto, unfolding(crate::specs::Grammar::fields_in))]
@@ -253,10 +183,7 @@ fn dropped(fields: &[u8]) -> Option<TraceBody>
     ensures value { result ≡ fields_in Keyword.Drop (words_of fields.now) }
     ensures range { IfSome result IsInRange }
 {
-    match block(fields) {
-        Some(spot) => Some(TraceBody::Note(Note::Drop(spot))),
-        None => None,
-    }
+    Some(TraceBody::Note(Note::Drop(block(fields)?)))
 }
 
 #[tactic(auto, unfolding(crate::specs::Grammar::fields_in))]
@@ -264,10 +191,7 @@ fn lost(fields: &[u8]) -> Option<TraceBody>
     ensures value { result ≡ fields_in Keyword.Lost (words_of fields.now) }
     ensures range { IfSome result IsInRange }
 {
-    match block(fields) {
-        Some(spot) => Some(TraceBody::Note(Note::Lost(spot))),
-        None => None,
-    }
+    Some(TraceBody::Note(Note::Lost(block(fields)?)))
 }
 
 /// What the fields behind a keyword say.

@@ -29,21 +29,11 @@ fn line_of_words(words: &[u8]) -> Option<TraceLine>
     ensures value { result ≡ line_in (words_of words.now) }
     ensures range { IfSome result (λ line. IsInRange line.body) }
 {
-    let Some((first, rest)) = cut(words) else {
-        return None;
-    };
-    let Some((second, rest)) = cut(rest) else {
-        return None;
-    };
-    let Some(own) = decimal(first) else {
-        return None;
-    };
-    let Some(shadow) = decimal(second) else {
-        return None;
-    };
-    let Some(body) = body(rest) else {
-        return None;
-    };
+    let (first, rest) = cut(words)?;
+    let (second, rest) = cut(rest)?;
+    let own = decimal(first)?;
+    let shadow = decimal(second)?;
+    let body = body(rest)?;
     Some(TraceLine { own, shadow, body })
 }
 
@@ -54,8 +44,6 @@ pub fn parse_line(bytes: &[u8]) -> Option<TraceLine>
     ensures value { result ≡ line_at bytes.now }
     ensures range { IfSome result (λ line. IsInRange line.body) }
 {
-    let Some(words) = bytes.strip_suffix(b"\n") else {
-        return None;
-    };
+    let words = bytes.strip_suffix(b"\n")?;
     line_of_words(words)
 }

@@ -29,12 +29,8 @@ pub fn one(text: &[u8]) -> Option<&[u8]>
 pub fn two(text: &[u8]) -> Option<(&[u8], &[u8])>
     ensures { two_words (words_of text.now) ≡ option_map (λ words. (words.0.now, words.1.now)) result }
 {
-    let Some((first, rest)) = cut(text) else {
-        return None;
-    };
-    let Some(second) = one(rest) else {
-        return None;
-    };
+    let (first, rest) = cut(text)?;
+    let second = one(rest)?;
     Some((first, second))
 }
 
@@ -42,12 +38,8 @@ pub fn two(text: &[u8]) -> Option<(&[u8], &[u8])>
 pub fn three(text: &[u8]) -> Option<(&[u8], &[u8], &[u8])>
     ensures { three_words (words_of text.now) ≡ option_map (λ words. (words.0.now, words.1.now, words.2.now)) result }
 {
-    let Some((first, rest)) = cut(text) else {
-        return None;
-    };
-    let Some((second, third)) = two(rest) else {
-        return None;
-    };
+    let (first, rest) = cut(text)?;
+    let (second, third) = two(rest)?;
     Some((first, second, third))
 }
 
@@ -55,14 +47,8 @@ pub fn three(text: &[u8]) -> Option<(&[u8], &[u8], &[u8])>
 pub fn five(text: &[u8]) -> Option<(&[u8], &[u8], &[u8], &[u8], &[u8])>
     ensures { five_words (words_of text.now) ≡ option_map (λ words. (words.0.now, words.1.now, words.2.now, words.3.now, words.4.now)) result }
 {
-    let Some((first, rest)) = cut(text) else {
-        return None;
-    };
-    let Some((second, rest)) = cut(rest) else {
-        return None;
-    };
-    let Some((third, fourth, fifth)) = three(rest) else {
-        return None;
-    };
+    let (first, rest) = cut(text)?;
+    let (second, rest) = cut(rest)?;
+    let (third, fourth, fifth) = three(rest)?;
     Some((first, second, third, fourth, fifth))
 }
