@@ -3,7 +3,8 @@
 
 Each crate is built by the kit's `rt lib`, several side by side, and what is built is kept: where
 this is stopped it goes on from there. It tells on standard error which crate is being built and how
-long it took so far. Usage: setup/build.py [NAME] builds the program crate NAME (spechint).
+long it took so far, and writes to out/build/seconds.txt how many processor seconds each crate took, in the form of
+setup/seconds.txt. Usage: setup/build.py [NAME] builds the program crate NAME (spechint).
 """
 
 import os
@@ -69,7 +70,7 @@ class Build:
         measured = seconds_of_crates()
         self.seconds = {it: measured.get(it, USUAL_SECONDS) for it in self.names | {goal}}
         self.weights = weights(self.names, self.uses, self.seconds)
-        self.done, self.running = set(), {}
+        self.done, self.running, self.took = set(), {}, {}
         self.start = time.monotonic()
         self.cores = os.cpu_count() or 1
 
@@ -109,10 +110,12 @@ class Build:
         """Waits for a crate to end, and gives its name and status."""
         while True:
             for name, process in list(self.running.items()):
-                status = process.poll()
-                if status is not None:
+                ended, status, usage = os.wait4(process.pid, os.WNOHANG)
+                if ended:
+                    process.returncode = os.waitstatus_to_exitcode(status)
+                    self.took[name] = round(usage.ru_utime + usage.ru_stime)
                     del self.running[name]
-                    return name, status
+                    return name, process.returncode
             time.sleep(0.1)
 
     def stop(self):
@@ -130,6 +133,11 @@ class Build:
             self.done.add(name)
             self.begin_ready(log)
         return None
+
+    def note_seconds(self, file):
+        """Writes how many processor seconds each crate took, those that were built in this call."""
+        with open(file, "w", encoding="utf-8") as output:
+            output.writelines(f"{name} {seconds}\n" for name, seconds in self.took.items())
 
 
 def fail(name, file):
@@ -154,6 +162,7 @@ def main():
         failed = build.libraries(log)
         if failed:
             fail(failed, os.path.join(log, failed))
+        build.note_seconds(os.path.join(log, "seconds.txt"))
         build.tell(f"building {len(build.names) + 1} of {len(build.names) + 1}: {goal}")
         file = os.path.join(log, goal)
         with open(file, "wb") as output:
