@@ -1,17 +1,60 @@
 //! Restarts while the shadow is between any two words.
 
 use crate::machines::{
-    Machine, block, demo_machine, go, go_many, matched, put_out, read, tells, to_the_end, told,
-    until_told,
+    EXITS, Machine, OPENS, block, go, go_many, joined, matched, put_out, read, tells, to_the_end,
+    told, until_told, with_data,
 };
 use runner_parts::{End, Turn};
 use spec_base::{Move, Note};
 use std::alloc::Global;
 use std::test::Fail;
 
-// Reads 64 bytes of each of six blocks, and stores behind each read.
+// Behind the open: reads 64 bytes of each of six blocks. Behind each read it stores the place of the read after the
+// next, and loads that of the next, which it has stored behind the read before.
+const SIX_READS: [u32; 21] = [
+    0x0000_1A37, // lui x20, 1
+    0x0000_29B7, // lui x19, 2
+    0x0000_8B37, // lui x22, 8
+    0x0000_0913, // addi x18, x0, 0
+    0x1044_0A93, // addi x21, x8, 260
+    0x1144_2023, // sw x20, 256(x8)
+    0x0004_8513, // addi x10, x9, 0
+    0x0009_0593, // addi x11, x18, 0
+    0x0000_0613, // addi x12, x0, 0
+    0x03E0_0893, // addi x17, x0, 62
+    0x0000_0073, // ecall
+    0x0004_8513, // addi x10, x9, 0
+    0x0020_15B7, // lui x11, 0x201
+    0x0400_0613, // addi x12, x0, 64
+    0x03F0_0893, // addi x17, x0, 63
+    0x0000_0073, // ecall
+    0x013A_A023, // sw x19, 0(x21)
+    0xFFCA_A903, // lw x18, -4(x21)
+    0x0149_89B3, // add x19, x19, x20
+    0x004A_8A93, // addi x21, x21, 4
+    0xFD69_94E3, // bne x19, x22, -56
+];
+
+// Puts `done` and a newline.
+const PUTS: [u32; 5] = [
+    0x0010_0513, // addi x10, x0, 1
+    0x0084_0593, // addi x11, x8, 8
+    0x0050_0613, // addi x12, x0, 5
+    0x0400_0893, // addi x17, x0, 64
+    0x0000_0073, // ecall
+];
+
 fn six_reads(alloc: Global) -> Result<Box<Machine>, Fail> {
-    demo_machine(alloc, 0, 6)
+    let words = joined(
+        alloc,
+        &[
+            OPENS.as_slice(),
+            SIX_READS.as_slice(),
+            PUTS.as_slice(),
+            EXITS.as_slice(),
+        ],
+    )?;
+    with_data(alloc, &words, 6)
 }
 
 // The own hart goes on to its next read: whether that restarts the shadow, and waits for its block.
