@@ -244,7 +244,7 @@ impl Mem {
     }
 
     // As `number`, for the shadow, which loads the text too.
-    #[inline(never)]
+    #[inline(always)]
     fn shadow_number(&self, address: u64, place: u64, size: u64) -> u64
         requires size { IsWidth size }
         requires aligned { address % size ≡ 0 }
