@@ -17,7 +17,8 @@ use Rattle.plain_runner.specs.Outcomes.{FetchesTo}
 
 -- ---- how many blocks
 
-blocks_up-length : (name : Name) (first n : ℕ) → length (blocks_up name first n) ≡ n
+-- n blocks are n
+pub blocks_up-length : (name : Name) (first n : ℕ) → length (blocks_up name first n) ≡ n
 blocks_up-length name first zero = refl
 blocks_up-length name first (suc n) = ap suc (blocks_up-length name (first + 1) n)
 
@@ -84,9 +85,6 @@ block-is : (o : Option (List ℕ)) (block : ℕ) → block_of o block ≡ take 4
 block-is None block = sym (ap (take 4096) (drop-nil (4096 * block)) ∙ take-nil 4096)
 block-is (Some bytes) block = refl
 
-one_more : (n : ℕ) → false ∷ replicate n false ≡ replicate (n + 1) false
-one_more n = rw (add-one n) refl
-
 -- a part of a buffer has as many bytes as its bounds say
 pub mid-length : (had n : ℕ) (into : List ℕ) → had + n ≤ length into → length (take (had + n - had) (drop had into)) ≡ n
 mid-length had n into room =
@@ -107,7 +105,7 @@ pub got-FetchLog : (a b c : StoreState) (spot : ReadSpot) (index had count : ℕ
     → IfSome b.files (λ files. FetchSays (files spot.name) (spot.offset / 4096 + index) (Got count) part)
     → FetchLog a spot (index + 1) (had + count) (take had into ++ (part ++ rest)) c
 got-FetchLog a b c spot index had count into part rest log low few small keeps counts told = record {
-  went = subst (λ l. StoreLog a l c) (one_more index) (call-StoreLog a b c (replicate index false) false log.went keeps (λ e. cc) counts);
+  went = subst (λ n. StoreLog a (replicate n false) c) (sym (add-one index)) (call-StoreLog a b c (replicate index false) false log.went keeps (λ e. cc) counts);
   most = omega (arith, log.most);
   told = λ files e. by files e (subst (λ o. IfSome o (λ fs. FetchSays (fs spot.name) (spot.offset / 4096 + index) (Got count) part)) (log.went.keeps.files ∙ e) told);
 }

@@ -6,7 +6,7 @@ use Rattle.std.proofs.lemmas.List.Elements.{All-nil, All-cons}
 use Rattle.spec_base.specs.Word.{word_of_int}
 use Rattle.spec_base.specs.Files.{Files, Name}
 use Rattle.spec_base.specs.declared.spot.ReadSpot.{ReadSpot}
-use Rattle.rv_model.specs.Memory.{bytes_at, written}
+use Rattle.rv_model.specs.Memory.{Memory, bytes_at, written}
 use Rattle.rv_model.specs.Registers.{reg, with_reg}
 use Rattle.rv_model.specs.Rights.{is_data}
 use Rattle.rv_model.specs.Effect.{after}
@@ -29,6 +29,7 @@ use Rattle.plain_runner.specs.Answers.{Answers, Sized, Gave}
 use Rattle.plain_runner.specs.Runs.{Outside, Shows, IsCall, IsFileCall}
 use Rattle.plain_runner.specs.Turns.{IsAtCall, GoesOn, Stops, alone, asks, puts_out, puts_err, piece, TurnsTo}
 use Rattle.plain_runner.specs.Outcomes.{OpenComesTo, ReadComesTo, PutComesTo, OfferComesTo, answered_core}
+use Rattle.plain_runner.proofs.Silent.{silent-GoesOn, silent-Stops}
 use Rattle.rv_model.proofs.DataLemmas.{bytes_at-length}
 use Rattle.hart_mem.proofs.DataBytes.{data-is, memory-is, zero_off_data}
 
@@ -61,45 +62,26 @@ module _ (p : Program) (s : State) (c : Core) (h : Held) (f : Descriptors) (show
   no_calls : (pl : CallPlan) → plan_of p.layout s ≡ pl → calls_of pl ≡ 0 → (st : StoreState) → StoreLog st (replicate (next_calls p s) false) st
   no_calls pl plan none st = subst (λ n. StoreLog st (replicate n false) st) (sym (makes pl plan ∙ none)) (none-StoreLog st)
 
+  -- a state that is the last one answered
+  answered-Shows : (n : State) (v : ℕ) (memory : Memory) (d : Descriptors) → n.registers ≡ with_reg c.registers 10 v → n.pc ≡ after s.pc → n.memory ≡ memory → n.files ≡ d → n.exited ≡ s.exited
+      → Shows p (answered_core c v) (record (space_of h) { program = memory }) d n
+  answered-Shows n v memory d rs pc is files exited =
+      record { view = shows.view; registers = rs; pc = pc ∙ ap after shows.pc; memory = is; files = files; exited = exited ∙ shows.exited; layout = shows.layout; words = shows.words }
+
   -- ---- what is answered at once
 
   pub set-GoesOn : (f_new : Descriptors) (answer : ℤ) (o : Outside) → plan_of p.layout s ≡ Set f_new answer
       → GoesOn p s o (answered_core c (word_of_int answer)) (space_of h) f_new o
   set-GoesOn f_new answer o plan =
-      record {
-        next = answered (record s { files = f_new }) answer;
-        answers = [];
-        outs = [];
-        errs = [];
-        completes = alone (λ files t. went (Set f_new answer) plan files t 0 refl) refl refl;
-        told = λ files e. All-nil (Answers files);
-        shows = record {
-          view = shows.view;
-          registers = ap (λ rs. with_reg rs 10 (word_of_int answer)) shows.registers;
-          pc = ap after shows.pc;
-          memory = shows.memory;
-          files = refl;
-          exited = shows.exited;
-          layout = shows.layout;
-          words = shows.words;
-        };
-        store_log = no_calls (Set f_new answer) plan refl o.store;
-        out_log = none-SinkLog o.out;
-        err_log = none-SinkLog o.err;
-      }
+      let n : State = answered (record s { files = f_new }) answer in
+      silent-GoesOn p s n [] o o.store (answered_core c (word_of_int answer)) (space_of h) f_new (alone (λ files t. went (Set f_new answer) plan files t 0 refl) refl refl)
+      (λ files e. All-nil (Answers files))
+      (answered-Shows n (word_of_int answer) (space_of h).program f_new (ap (λ rs. with_reg rs 10 (word_of_int answer)) shows.registers) refl shows.memory refl refl)
+      (no_calls (Set f_new answer) plan refl o.store)
 
   pub exit-Stops : (code : ℕ) (o : Outside) → plan_of p.layout s ≡ Exit code → Stops p s (Exited code) o c (space_of h) f o
   exit-Stops code o plan =
-      record {
-        ends = ((λ files t. went (Exit code) plan files t 0 refl), makes (Exit code) plan);
-        shows = shows;
-        called = none-StoreLog o.store;
-        out_fault = None;
-        err_fault = None;
-        failed = (refl, refl);
-        out_log = none-SinkLog o.out;
-        err_log = none-SinkLog o.err;
-      }
+      silent-Stops p s (Exited code) o o.store c (space_of h) f ((λ files t. went (Exit code) plan files t 0 refl), makes (Exit code) plan) shows (none-StoreLog o.store) (refl, refl)
 
   -- ---- opens
 
@@ -107,44 +89,22 @@ module _ (p : Program) (s : State) (c : Core) (h : Held) (f : Descriptors) (show
       → ((files : Files) → o.store.files ≡ Some files → size_in files name ≡ size)
       → GoesOn p s o (answered_core c (word_of_int (opened f name size).1)) (space_of h) (opened f name size).0 (record o { store = st })
   open-GoesOn name size o st plan log told =
-      record {
-        next = after_look s (opened s.files name size);
-        answers = Sized name size ∷ [];
-        outs = [];
-        errs = [];
-        completes = asks (Sized name size)
-            (λ files t is. went (Look name) plan files t 0 refl ∙ ap (λ n. Some (after_look s (opened s.files name n))) is) refl refl;
-        told = λ files e. All-cons (Answers files) (Sized name size) [] (told files e) (All-nil (Answers files));
-        shows = record {
-          view = shows.view;
-          registers = ap (λ rs. with_reg rs 10 (word_of_int (opened s.files name size).1)) shows.registers
-              ∙ ap (λ d. with_reg c.registers 10 (word_of_int (opened d name size).1)) shows.files;
-          pc = ap after shows.pc;
-          memory = shows.memory;
-          files = ap (λ d. (opened d name size).0) shows.files;
-          exited = shows.exited;
-          layout = shows.layout;
-          words = shows.words;
-        };
-        store_log = subst (λ n. StoreLog o.store (replicate n false) st) (sym (makes (Look name) plan)) log;
-        out_log = none-SinkLog o.out;
-        err_log = none-SinkLog o.err;
-      }
+      let n : State = after_look s (opened s.files name size) in
+      silent-GoesOn p s n (Sized name size ∷ []) o st (answered_core c (word_of_int (opened f name size).1)) (space_of h) (opened f name size).0
+      (asks (Sized name size) (λ files t is. went (Look name) plan files t 0 refl ∙ ap (λ k. Some (after_look s (opened s.files name k))) is) refl refl)
+      (λ files e. All-cons (Answers files) (Sized name size) [] (told files e) (All-nil (Answers files)))
+      (answered-Shows n (word_of_int (opened f name size).1) (space_of h).program (opened f name size).0
+      (ap (λ rs. with_reg rs 10 (word_of_int (opened s.files name size).1)) shows.registers ∙ ap (λ d. with_reg c.registers 10 (word_of_int (opened d name size).1)) shows.files)
+      refl shows.memory (ap (λ d. (opened d name size).0) shows.files) refl)
+      (subst (λ k. StoreLog o.store (replicate k false) st) (sym (makes (Look name) plan)) log)
 
   -- a call on the store that failed
   fault-Stops : (pl : CallPlan) (o : Outside) (st : StoreState) (core : Core) (space : Space) (d : Descriptors) (more : ℕ) → plan_of p.layout s ≡ pl → IsFileCall p s → more < calls_of pl
       → StoreLog o.store (true ∷ replicate more false) st → core ≡ c → space ≡ space_of h → d ≡ f → Stops p s StoreFault o core space d (record o { store = st })
   fault-Stops pl o st core space d more plan is within log same_core same_space same_files =
-      record {
-        ends = is;
-        shows = subst (λ k. Shows p k space d s) (sym same_core) (subst (λ m. Shows p c m d s) (sym same_space) (subst (λ q. Shows p c (space_of h) q s) (sym same_files) shows));
-        called = (more, subst (λ n. more < n) (sym (makes pl plan)) within, log);
-        out_fault = None;
-        err_fault = None;
-        failed = (refl, refl);
-        out_log = none-SinkLog o.out;
-        err_log = none-SinkLog o.err;
-      }
+      silent-Stops p s StoreFault o st core space d is
+      (subst (λ k. Shows p k space d s) (sym same_core) (subst (λ m. Shows p c m d s) (sym same_space) (subst (λ q. Shows p c (space_of h) q s) (sym same_files) shows)))
+      (more, subst (λ n. more < n) (sym (makes pl plan)) within, log) (refl, refl)
 
   pub open-TurnsTo : (name : Name) (o : Outside) (st : StoreState) (core : Core) (d : Descriptors) (r : Option Ending) → plan_of p.layout s ≡ Look name
       → OpenComesTo name o.store c f r st core d → TurnsTo p s o r core (space_of h) d (record o { store = st })
@@ -168,30 +128,17 @@ module _ (p : Program) (s : State) (c : Core) (h : Held) (f : Descriptors) (show
       → StoreLog o.store (replicate (length (blocks_of spot)) false) st → ((files : Files) → o.store.files ≡ Some files → bytes_read files spot ≡ bytes)
       → GoesOn p s o (answered_core c spot.count) (record (space_of h) { program = written (space_of h).program a bytes }) (after_read f d spot.count) (record o { store = st })
   read-GoesOn d a spot bytes o st plan few log told =
-      record {
-        next = answered (record s { memory = written s.memory a bytes; files = after_read s.files d spot.count }) (pos spot.count);
-        answers = Gave spot bytes ∷ [];
-        outs = [];
-        errs = [];
-        completes = asks (Gave spot bytes)
-            (λ files t is.
-            went (Read d spot a) plan files t 0 refl
-            ∙ ap (λ bs. Some (answered (record s { memory = written s.memory a bs; files = after_read s.files d spot.count }) (pos spot.count))) is) refl refl;
-        told = λ files e. All-cons (Answers files) (Gave spot bytes) [] (told files e) (All-nil (Answers files));
-        shows = record {
-          view = shows.view;
-          registers = rw (small spot.count spot.count (omega arith) few) (ap (λ rs. with_reg rs 10 spot.count) shows.registers);
-          pc = ap after shows.pc;
-          memory = ap (λ m. written m a bytes) shows.memory;
-          files = ap (λ q. after_read q d spot.count) shows.files;
-          exited = shows.exited;
-          layout = shows.layout;
-          words = shows.words;
-        };
-        store_log = subst (λ n. StoreLog o.store (replicate n false) st) (sym (makes (Read d spot a) plan)) log;
-        out_log = none-SinkLog o.out;
-        err_log = none-SinkLog o.err;
-      }
+      let n : State = answered (record s { memory = written s.memory a bytes; files = after_read s.files d spot.count }) (pos spot.count) in
+      silent-GoesOn p s n (Gave spot bytes ∷ []) o st (answered_core c spot.count) (record (space_of h) { program = written (space_of h).program a bytes }) (after_read f d spot.count)
+      (asks (Gave spot bytes)
+      (λ files t is.
+      went (Read d spot a) plan files t 0 refl
+      ∙ ap (λ bs. Some (answered (record s { memory = written s.memory a bs; files = after_read s.files d spot.count }) (pos spot.count))) is) refl refl)
+      (λ files e. All-cons (Answers files) (Gave spot bytes) [] (told files e) (All-nil (Answers files)))
+      (answered-Shows n spot.count (written (space_of h).program a bytes) (after_read f d spot.count)
+      (rw (small spot.count spot.count (omega arith) few) (ap (λ rs. with_reg rs 10 spot.count) shows.registers)) refl
+      (ap (λ m. written m a bytes) shows.memory) (ap (λ q. after_read q d spot.count) shows.files) refl)
+      (subst (λ k. StoreLog o.store (replicate k false) st) (sym (makes (Read d spot a) plan)) log)
 
   pub read-TurnsTo : (d a : ℕ) (spot : ReadSpot) (o : Outside) (st : StoreState) (core : Core) (space : Space) (q : Descriptors) (r : Option Ending) → plan_of p.layout s ≡ Read d spot a → spot.count ≤ 65536
       → ReadComesTo d spot a o.store c (space_of h) f r st core space q → TurnsTo p s o r core space q (record o { store = st })
@@ -221,16 +168,8 @@ module _ (p : Program) (s : State) (c : Core) (h : Held) (f : Descriptors) (show
   put-Shows : (next : State) (k n : ℕ) → k ≤ n → n ≤ 65536 → next.registers ≡ with_reg s.registers 10 (word_of_int (pos k)) → next.pc ≡ after s.pc → next.memory ≡ s.memory
       → next.files ≡ s.files → next.exited ≡ s.exited → Shows p (answered_core c k) (space_of h) f next
   put-Shows next k n most few rs pc memory files exited =
-      record {
-        view = shows.view;
-        registers = rs ∙ (ap (λ w. with_reg s.registers 10 w) (small k n most few) ∙ ap (λ r. with_reg r 10 k) shows.registers);
-        pc = pc ∙ ap after shows.pc;
-        memory = memory ∙ shows.memory;
-        files = files ∙ shows.files;
-        exited = exited ∙ shows.exited;
-        layout = shows.layout;
-        words = shows.words;
-      }
+      answered-Shows next k (space_of h).program f (rs ∙ (ap (λ w. with_reg s.registers 10 w) (small k n most few) ∙ ap (λ r. with_reg r 10 k) shows.registers)) pc
+      (memory ∙ shows.memory) (files ∙ shows.files) exited
 
   out-GoesOn : (a n k : ℕ) (o : Outside) (out : SinkState) → plan_of p.layout s ≡ Write true a n → n ≤ 65536
       → k ≤ length (bytes_at (memory_in (data_byte (space_of h))) a n) → SinkLog o.out (piece (bytes_at (memory_in (data_byte (space_of h))) a n) k ∷ []) None out

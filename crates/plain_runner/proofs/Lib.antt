@@ -1,4 +1,5 @@
-mod Blocks
+pub mod Blocks
+mod Silent
 mod CallLemmas
 mod Steps
 mod RunLogs

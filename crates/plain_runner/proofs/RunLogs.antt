@@ -2,8 +2,8 @@
 use Rattle.std.proofs.Common.{◌≡◌, ℕ, zero, suc, ◌+◌, ◌<◌, true, false, List, [], ◌∷◌, ◌++◌, length, map, slice_get, Option, Some, None, refl, ap, sym, ◌∙◌, subst, arith}
 use Rattle.std.specs.Prelude.{unwrap_or, All}
 use Rattle.std.proofs.Math.ListN.{replicate}
-use Rattle.std.proofs.lemmas.List.{append-nil, map-append, replicate-append-replicate}
-use Rattle.std.proofs.lemmas.List.Elements.{All-nil, All-cons, All-head, All-tail, All-append}
+use Rattle.std.proofs.lemmas.List.{append-nil, map-append, replicate-append-replicate, take_at, drop_at}
+use Rattle.std.proofs.lemmas.List.Elements.{All-nil, All-head, All-append, All-take, All-drop}
 use Rattle.spec_base.specs.Files.{Files}
 use Rattle.rv_model.specs.Space.{Space}
 use Rattle.program_model.specs.Descriptors.{Descriptors}
@@ -17,7 +17,7 @@ use Rattle.plain_runner.specs.declared.ending.Ending.{Ending}
 use Rattle.plain_runner.specs.declared.ending.Ending.TheVariants.{Exited, Trapped, TurnsOver, StoreFault, SinkFault, NoMemory}
 use Rattle.plain_runner.specs.StoreCalls.{next_calls, state_calls, calls_until}
 use Rattle.plain_runner.specs.Answers.{Answer, Answers}
-use Rattle.plain_runner.specs.Runs.{Outside, Shows, output_of, AgreeOn, Agrees, EndsBy, CallsStore, Reaches, RunsTo}
+use Rattle.plain_runner.specs.Runs.{Outside, Shows, output_of, AgreeOn, Agrees, EndsBy, CallsStore, FailedPuts, Reaches, RunsTo}
 use Rattle.plain_runner.specs.Turns.{IsStart, Completes, alone, asks, puts_out, puts_err, piece, GoesOn, Stops, LastCalls}
 
 -- a state was reached by completed instructions, and what it put is what the sinks took
@@ -59,12 +59,10 @@ first-RunLog p core space f o start =
 
 -- what is true of all answers is true of the earlier ones, and of the last
 earlier : (files : Files) (xs ys : List Answer) → All (Answers files) (xs ++ ys) → All (Answers files) xs
-earlier files [] ys h = All-nil (Answers files)
-earlier files (x ∷ xs) ys h = All-cons (Answers files) x xs (All-head (Answers files) x (xs ++ ys) h) (earlier files xs ys (All-tail (Answers files) x (xs ++ ys) h))
+earlier files xs ys h = subst (All (Answers files)) (take_at xs ys (length xs) refl) (All-take (Answers files) (length xs) (xs ++ ys) h)
 
 later : (files : Files) (xs ys : List Answer) → All (Answers files) (xs ++ ys) → All (Answers files) ys
-later files [] ys h = h
-later files (x ∷ xs) ys h = later files xs ys (All-tail (Answers files) x (xs ++ ys) h)
+later files xs ys h = subst (All (Answers files)) (drop_at xs ys (length xs) refl) (All-drop (Answers files) (length xs) (xs ++ ys) h)
 
 -- ---- counts of puts
 
@@ -223,57 +221,49 @@ module _ (p : Program) (old : Outside) (n : ℕ) (core : Core) (space : Space) (
         words = shows.words;
       }
 
-  -- the run ends in the state that it is in
-  pub ends-here : (turns : ℕ) (e : Ending) (core_new : Core) (space_new : Space) (f_new : Descriptors) (new : Outside) → EndsBy p turns n log.state e
-      → Stops p log.state e now core_new space_new f_new new → RunsTo p turns old e core_new space_new f_new new
-  ends-here turns e core_new space_new f_new new ends stop =
+  -- the run ended after so many instructions, in a state that has put what the log says
+  concluded : (turns count : ℕ) (e : Ending) (core_new : Core) (space_new : Space) (f_new : Descriptors) (new : Outside) (s : State) (out_fault err_fault : Option (List ℕ))
+      → ((files : Files) (t : Taken) → All (Answers files) log.answers → Agrees t log.outs log.errs → Reaches p files t count s log.calls)
+      → Shows p core_new space_new f_new (record s { exited = None }) → s.out ≡ log.state.out → s.err ≡ log.state.err → EndsBy p turns count s e
+      → CallsStore p s e log.calls old.store new.store → FailedPuts p s e out_fault err_fault → SinkLog now.out [] out_fault new.out → SinkLog now.err [] err_fault new.err
+      → RunsTo p turns old e core_new space_new f_new new
+  concluded turns count e core_new space_new f_new new s out_fault err_fault reached shows out err ends called failed out_log err_log =
       record {
-        n = n;
-        state = log.state;
+        n = count;
+        state = s;
         calls = log.calls;
         answers = log.answers;
         outs = log.outs;
         errs = log.errs;
-        reached = log.reached;
+        reached = reached;
         told = log.told;
-        shows = left-Shows core_new space_new f_new log.state stop.shows;
-        out_is = log.out_is;
-        err_is = log.err_is;
+        shows = shows;
+        out_is = out ∙ log.out_is;
+        err_is = err ∙ log.err_is;
         ends = ends;
-        called = called-along new.store e stop.called;
-        out_fault = stop.out_fault;
-        err_fault = stop.err_fault;
-        failed = stop.failed;
-        out_log = last-log old.out now.out new.out log.outs stop.out_fault log.out_log stop.out_log;
-        err_log = last-log old.err now.err new.err log.errs stop.err_fault log.err_log stop.err_log;
+        called = called;
+        out_fault = out_fault;
+        err_fault = err_fault;
+        failed = failed;
+        out_log = last-log old.out now.out new.out log.outs out_fault log.out_log out_log;
+        err_log = last-log old.err now.err new.err log.errs err_fault log.err_log err_log;
       }
+
+  -- the run ends in the state that it is in
+  pub ends-here : (turns : ℕ) (e : Ending) (core_new : Core) (space_new : Space) (f_new : Descriptors) (new : Outside) → EndsBy p turns n log.state e
+      → Stops p log.state e now core_new space_new f_new new → RunsTo p turns old e core_new space_new f_new new
+  ends-here turns e core_new space_new f_new new ends stop =
+      concluded turns n e core_new space_new f_new new log.state stop.out_fault stop.err_fault log.reached (left-Shows core_new space_new f_new log.state stop.shows) refl refl
+      ends (called-along new.store e stop.called) stop.failed stop.out_log stop.err_log
 
   pub ended-RunsTo : (turns : ℕ) (e : Ending) (core_new : Core) (space_new : Space) (f_new : Descriptors) (new : Outside)
       → n < turns → Stops p log.state e now core_new space_new f_new new → RunsTo p turns old e core_new space_new f_new new
   ended-RunsTo turns (Exited code) core_new space_new f_new new left stop =
       let none : log.calls + next_calls p log.state ≡ log.calls = omega (arith, stop.ends.1) in
-      record {
-        n = suc n;
-        state = record log.state { exited = Some code };
-        calls = log.calls;
-        answers = log.answers;
-        outs = log.outs;
-        errs = log.errs;
-        reached = λ files t true_of agrees.
-            subst (λ k. Reaches p files t (suc n) (record log.state { exited = Some code }) k) none
-            (one-more (record log.state { exited = Some code }) files t (log.reached files t true_of agrees) (stop.ends.0 files t));
-        told = log.told;
-        shows = left-Shows core_new space_new f_new log.state stop.shows;
-        out_is = log.out_is;
-        err_is = log.err_is;
-        ends = (omega (arith, left), refl);
-        called = no-more-calls new.store stop.called;
-        out_fault = stop.out_fault;
-        err_fault = stop.err_fault;
-        failed = stop.failed;
-        out_log = last-log old.out now.out new.out log.outs stop.out_fault log.out_log stop.out_log;
-        err_log = last-log old.err now.err new.err log.errs stop.err_fault log.err_log stop.err_log;
-      }
+      let left_in : State = record log.state { exited = Some code } in
+      concluded turns (suc n) (Exited code) core_new space_new f_new new left_in stop.out_fault stop.err_fault
+      (λ files t true_of agrees. subst (λ k. Reaches p files t (suc n) left_in k) none (one-more left_in files t (log.reached files t true_of agrees) (stop.ends.0 files t)))
+      (left-Shows core_new space_new f_new log.state stop.shows) refl refl (omega (arith, left), refl) (no-more-calls new.store stop.called) stop.failed stop.out_log stop.err_log
   ended-RunsTo turns (Trapped cause pc) core_new space_new f_new new left stop = ends-here turns (Trapped cause pc) core_new space_new f_new new (left, log.shows.exited, stop.ends) stop
   ended-RunsTo turns StoreFault core_new space_new f_new new left stop = ends-here turns StoreFault core_new space_new f_new new (left, log.shows.exited, stop.ends) stop
   ended-RunsTo turns SinkFault core_new space_new f_new new left stop = ends-here turns SinkFault core_new space_new f_new new (left, log.shows.exited) stop
@@ -283,23 +273,5 @@ module _ (p : Program) (old : Outside) (n : ℕ) (core : Core) (space : Space) (
   -- all turns are over
   pub over-RunsTo : (turns : ℕ) → n ≡ turns → RunsTo p turns old (TurnsOver turns) core space f now
   over-RunsTo turns e =
-      record {
-        n = n;
-        state = log.state;
-        calls = log.calls;
-        answers = log.answers;
-        outs = log.outs;
-        errs = log.errs;
-        reached = log.reached;
-        told = log.told;
-        shows = left-Shows core space f log.state log.shows;
-        out_is = log.out_is;
-        err_is = log.err_is;
-        ends = (e, log.shows.exited, refl);
-        called = log.store_log;
-        out_fault = None;
-        err_fault = None;
-        failed = (refl, refl);
-        out_log = log.out_log;
-        err_log = log.err_log;
-      }
+      concluded turns n (TurnsOver turns) core space f now log.state None None log.reached (left-Shows core space f log.state log.shows) refl refl
+      (e, log.shows.exited, refl) log.store_log (refl, refl) (none-SinkLog now.out) (none-SinkLog now.err)

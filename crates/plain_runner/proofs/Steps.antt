@@ -26,13 +26,13 @@ use Rattle.hart_step.specs.Step.{outcome, stepped, store_outcome, effect_here}
 use Rattle.hart_step.specs.declared.event.Event.{Event}
 use Rattle.hart_step.specs.declared.event.Event.TheVariants as event
 use Rattle.world_io.specs.Logs.{StoreLog}
-use Rattle.world_io.proofs.Sinks.{none-SinkLog}
 use Rattle.world_io.proofs.Stores.{none-StoreLog}
 use Rattle.plain_runner.specs.declared.ending.Ending.TheVariants.{Trapped as EndsTrapped, NoMemory}
 use Rattle.plain_runner.specs.StoreCalls.{next_calls, word_calls, effect_calls}
 use Rattle.plain_runner.specs.Answers.{Answers}
 use Rattle.plain_runner.specs.Runs.{Outside, Shows}
 use Rattle.plain_runner.specs.Turns.{IsAtCall, GoesOn, Stops, alone}
+use Rattle.plain_runner.proofs.Silent.{silent-GoesOn, silent-Stops}
 
 -- ---- the word at the pc
 
@@ -155,51 +155,30 @@ StepsTo p s c sp f other core space = ⊥
 
 module _ (p : Program) (s : State) (c : Core) (sp : Space) (f : Descriptors) (shows : Shows p c sp f s) (lacks : ℕ → Bool) where
   -- a step that completes
-  goes : (n : State) → ((files : Files) (t : Taken) → next p files t s ≡ Went n) → (files : Files) (t : Taken) → next_state p files t s ≡ Some n
-  goes n went files t = ap (λ e. next_unless e p files t s) shows.exited ∙ ap completed (went files t)
+  moved : (rs : Registers) (m : Memory) (pc : ℕ) (core : Core) (space : Space) → next_calls p s ≡ 0
+      → ((files : Files) (t : Taken) → next p files t s ≡ Went (record s { registers = rs; memory = m; pc = pc }))
+      → core.view ≡ Plain → rs ≡ core.registers → pc ≡ core.pc → m ≡ space.program → space.layout ≡ p.layout → space.text ≡ p.words → Moved p s core space f
+  moved rs m pc core space none went view rs_is pc_is m_is layout words =
+      record {
+        next = record s { registers = rs; memory = m; pc = pc };
+        steps = λ files t. ap (λ e. next_unless e p files t s) shows.exited ∙ ap completed (went files t);
+        out = refl;
+        err = refl;
+        calls = none;
+        shows = record { view = view; registers = rs_is; pc = pc_is; memory = m_is; files = shows.files; exited = shows.exited; layout = layout; words = words };
+      }
 
   stores : (b : Bool) (a width v : ℕ) → next_calls p s ≡ 0 → ((files : Files) (t : Taken) → next p files t s ≡ after_effect p files t s (Stored a width v))
       → StepsTo p s c sp f (store_outcome b c sp a width v).event (store_outcome b c sp a width v).core (store_outcome b c sp a width v).space
   stores true a width v none went = (refl, refl)
   stores false a width v none went =
-      record {
-        next = record s { memory = stored s.memory a width v; pc = after s.pc };
-        steps = goes (record s { memory = stored s.memory a width v; pc = after s.pc }) went;
-        out = refl;
-        err = refl;
-        calls = none;
-        shows = record {
-          view = shows.view;
-          registers = shows.registers;
-          pc = ap after shows.pc;
-          memory = rw (shows.view, shows.memory) refl;
-          files = shows.files;
-          exited = shows.exited;
-          layout = rw shows.view shows.layout;
-          words = rw shows.view shows.words;
-        };
-      }
+      moved s.registers (stored s.memory a width v) (after s.pc) (store_outcome false c sp a width v).core (store_outcome false c sp a width v).space none went
+      shows.view shows.registers (ap after shows.pc) (rw (shows.view, shows.memory) refl) (rw shows.view shows.layout) (rw shows.view shows.words)
 
   steps-by : (e : Effect) → is_gated e ≡ false → next_calls p s ≡ effect_calls p s e → ((files : Files) (t : Taken) → next p files t s ≡ after_effect p files t s e)
       → StepsTo p s c sp f (stepped lacks e c sp).event (stepped lacks e c sp).core (stepped lacks e c sp).space
   steps-by (Next rs pc) g none went =
-      record {
-        next = record s { registers = rs; pc = pc };
-        steps = goes (record s { registers = rs; pc = pc }) went;
-        out = refl;
-        err = refl;
-        calls = none;
-        shows = record {
-          view = shows.view;
-          registers = refl;
-          pc = refl;
-          memory = shows.memory;
-          files = shows.files;
-          exited = shows.exited;
-          layout = shows.layout;
-          words = shows.words;
-        };
-      }
+      moved rs s.memory pc (record c { registers = rs; pc = pc }) sp none went shows.view refl refl shows.memory shows.layout shows.words
   steps-by (Stored a width v) g none went = stores (lacks a) a width v none went
   steps-by (Trapped cause) g none went = (went, refl, refl)
   steps-by Called g count went = (record { performs = went; calls = count }, refl, refl)
@@ -215,19 +194,9 @@ module _ (p : Program) (s : State) (c : Core) (sp : Space) (f : Descriptors) (sh
 
 pub done-GoesOn : (p : Program) (s : State) (c : Core) (sp : Space) (f : Descriptors) (core : Core) (space : Space) (o : Outside)
     → StepsTo p s c sp f event.Done core space → GoesOn p s o core space f o
-done-GoesOn p s c sp f core space o moved =
-    record {
-      next = moved.next;
-      answers = [];
-      outs = [];
-      errs = [];
-      completes = alone moved.steps moved.out moved.err;
-      told = λ files e. All-nil (Answers files);
-      shows = moved.shows;
-      store_log = subst (λ n. StoreLog o.store (replicate n false) o.store) (sym moved.calls) (none-StoreLog o.store);
-      out_log = none-SinkLog o.out;
-      err_log = none-SinkLog o.err;
-    }
+done-GoesOn p s c sp f core space o came =
+    silent-GoesOn p s came.next [] o o.store core space f (alone came.steps came.out came.err) (λ files e. All-nil (Answers files)) came.shows
+    (subst (λ n. StoreLog o.store (replicate n false) o.store) (sym came.calls) (none-StoreLog o.store))
 
 -- hart and memory are as before
 same-Shows : (p : Program) (s : State) (c : Core) (sp : Space) (f : Descriptors) → Shows p c sp f s → (core : Core) (space : Space) → core ≡ c → space ≡ sp → Shows p core space f s
@@ -236,32 +205,15 @@ same-Shows p s c sp f shows core space same_core same_space = subst (λ k. Shows
 pub trap-Stops : (p : Program) (s : State) (c : Core) (sp : Space) (f : Descriptors) (shows : Shows p c sp f s) (cause : Trap) (pc : ℕ) (core : Core) (space : Space) (o : Outside)
     → StepsTo p s c sp f (event.Trap cause) core space → pc ≡ core.pc → Stops p s (EndsTrapped cause pc) o core space f o
 trap-Stops p s c sp f shows cause pc core space o stepped_to at =
-    record {
-      ends = λ files t.
-          ap (λ e. end_unless e p files t s) shows.exited
-          ∙ (ap (λ st. end_of_step st s.pc) (stepped_to.0 files t) ∙ ap (λ a. TrapsAt cause a) (shows.pc ∙ (ap (λ k. k.pc) (sym stepped_to.1) ∙ sym at)));
-      shows = same-Shows p s c sp f shows core space stepped_to.1 stepped_to.2;
-      called = none-StoreLog o.store;
-      out_fault = None;
-      err_fault = None;
-      failed = (refl, refl);
-      out_log = none-SinkLog o.out;
-      err_log = none-SinkLog o.err;
-    }
+    silent-Stops p s (EndsTrapped cause pc) o o.store core space f
+    (λ files t.
+    ap (λ e. end_unless e p files t s) shows.exited
+    ∙ (ap (λ st. end_of_step st s.pc) (stepped_to.0 files t) ∙ ap (λ a. TrapsAt cause a) (shows.pc ∙ (ap (λ k. k.pc) (sym stepped_to.1) ∙ sym at))))
+    (same-Shows p s c sp f shows core space stepped_to.1 stepped_to.2) (none-StoreLog o.store) (refl, refl)
 
 -- want of memory
 pub starved-Stops : (p : Program) (s : State) (core : Core) (space : Space) (f : Descriptors) (o : Outside) → Shows p core space f s → Stops p s NoMemory o core space f o
-starved-Stops p s core space f o shows =
-    record {
-      ends = tt;
-      shows = shows;
-      called = none-StoreLog o.store;
-      out_fault = None;
-      err_fault = None;
-      failed = (refl, refl);
-      out_log = none-SinkLog o.out;
-      err_log = none-SinkLog o.err;
-    }
+starved-Stops p s core space f o shows = silent-Stops p s NoMemory o o.store core space f tt shows (none-StoreLog o.store) (refl, refl)
 
 -- an event that isn't treated apart leaves hart and memory
 pub other-Shows : (p : Program) (s : State) (c : Core) (sp : Space) (f : Descriptors) → Shows p c sp f s → (core : Core) (space : Space) (told : Event)
