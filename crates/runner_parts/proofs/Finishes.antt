@@ -4,7 +4,7 @@ use Rattle.std.specs.Prelude.{unwrap_or}
 use Rattle.spec_base.specs.declared.note.Note.TheVariants as note
 use Rattle.spec_base.specs.declared.spot.BlockSpot.{BlockSpot}
 use Rattle.program_model.specs.Cache.{Cache, in_flight, flight_of, blocks_of}
-use Rattle.run_model.specs.Run.{World, Run, StoreFailed, Usual, Failed, Lost}
+use Rattle.run_model.specs.Run.{World, Run, RunEnd, StoreFailed, Usual, Failed, Lost}
 use Rattle.run_model.specs.Moves.{fetch_step, fetch_of, fetch_failed, landed_with, cached_too}
 use Rattle.cache_queue.specs.State.{CachedBlocks}
 use Rattle.cache_queue.specs.Finishes.{IsOf, finished, with_finished}
@@ -40,9 +40,12 @@ queued-finish w r (Fault spot) none is = absurd (let e : None ≡ Some spot = sy
 
 -- ---- what the own hart has
 
-pub gathers-same : (w : World) (o : OwnSide) (c d : Cache) (staged : List ℕ) → d.demanded ≡ c.demanded → Gathers w o c staged → Gathers w o d staged
-gathers-same w o c d staged e (inl rest) = inl (record { none = rest.none; goes = rest.goes; undemanded = e ∙ rest.undemanded })
-gathers-same w o c d staged e (inr (inl g)) =
+-- the same over another cache that waits for the same block, and with another end that is as good
+pub gathers-with :
+    (w : World) (o : OwnSide) (end : Option RunEnd) (c d : Cache) (staged : List ℕ) → d.demanded ≡ c.demanded → (o.end ≡ Some StoreFailed → end ≡ Some StoreFailed) → Gathers w o c staged
+    → Gathers w (record o { end = end }) d staged
+gathers-with w o end c d staged e over (inl rest) = inl (record { none = rest.none; goes = rest.goes; undemanded = e ∙ rest.undemanded })
+gathers-with w o end c d staged e over (inr (inl g)) =
     inr
     (inl (record {
       in_stub = g.in_stub;
@@ -57,7 +60,10 @@ gathers-same w o c d staged e (inr (inl g)) =
       staged_are = g.staged_are;
       demanded = e ∙ g.demanded;
     }))
-gathers-same w o c d staged e (inr (inr x)) = inr (inr (record { in_stub = x.in_stub; at_call = x.at_call; waits = x.waits; undemanded = e ∙ x.undemanded; over = x.over }))
+gathers-with w o end c d staged e over (inr (inr x)) = inr (inr (record { in_stub = x.in_stub; at_call = x.at_call; waits = x.waits; undemanded = e ∙ x.undemanded; over = over x.over }))
+
+pub gathers-same : (w : World) (o : OwnSide) (c d : Cache) (staged : List ℕ) → d.demanded ≡ c.demanded → Gathers w o c staged → Gathers w o d staged
+gathers-same w o c d staged e g = gathers-with w o o.end c d staged e (λ over. over) g
 
 -- ---- the demanded block
 

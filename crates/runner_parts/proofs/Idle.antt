@@ -41,7 +41,7 @@ pub step-idle : (w : World) (r : Run) (m : Move × Answer) → r.end ≡ None �
 step-idle w r m going e = ap (λ (o : Option RunEnd). step_unless o w r m) going ∙ moved-idle m.0 w m.1 r e
 
 -- idle moves stay idle
-idle-again : (m : Move) (r : Run) → is_idle m (begun r) ≡ is_idle m r
+pub idle-again : (m : Move) (r : Run) → is_idle m (begun r) ≡ is_idle m r
 idle-again O r = refl
 idle-again S r = refl
 idle-again T r = refl
