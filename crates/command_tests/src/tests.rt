@@ -4,6 +4,7 @@ mod commands;
 mod files;
 mod images;
 mod outputs;
+mod patterns;
 mod reaching;
 mod reports;
 mod rewriting;
