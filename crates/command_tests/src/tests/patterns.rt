@@ -9,53 +9,54 @@ const NONE: &[u8] = b"spechint: turns over after 0 instructions\n";
 
 const TWO: &[u8] = b"spechint: turns over after 2 instructions\n";
 
-// Command lines over a program of three instructions, which exits with 7: where an item of the pattern does nothing, its
-// moves are turns all the same. So each line tells which item came first.
+// Command lines over a program that exits with 7 by its third instruction, the eighth word of its own with those of the
+// stub. Where an item of the pattern does nothing its moves are turns all the same, so that each line tells which item
+// came first.
 const FIRST_ITEMS: [Row; 12] = [
     (
-        &["run", "--pattern", "O1", "--turns", "2", "w1"],
+        &["run", "--pattern", "O1", "--turns", "7", "w1"],
         124,
         b"",
         TWO,
     ),
     (
-        &["run", "--pattern", "O1", "--turns", "3", "w1"],
+        &["run", "--pattern", "O1", "--turns", "8", "w1"],
         7,
         b"",
         b"",
     ),
     (
-        &["run", "--pattern", "S1O1", "--turns", "5", "w1"],
+        &["run", "--pattern", "S1O1", "--turns", "15", "w1"],
         124,
         b"",
         TWO,
     ),
     (
-        &["run", "--pattern", "S1O1", "--turns", "6", "w1"],
+        &["run", "--pattern", "S1O1", "--turns", "16", "w1"],
         7,
         b"",
         b"",
     ),
     (
-        &["run", "--pattern", "T1O1", "--turns", "5", "w1"],
+        &["run", "--pattern", "T1O1", "--turns", "15", "w1"],
         124,
         b"",
         TWO,
     ),
     (
-        &["run", "--pattern", "T1O1", "--turns", "6", "w1"],
+        &["run", "--pattern", "T1O1", "--turns", "16", "w1"],
         7,
         b"",
         b"",
     ),
     (
-        &["run", "--pattern", "D1O1", "--turns", "5", "w1"],
+        &["run", "--pattern", "D1O1", "--turns", "15", "w1"],
         124,
         b"",
         TWO,
     ),
     (
-        &["run", "--pattern", "D1O1", "--turns", "6", "w1"],
+        &["run", "--pattern", "D1O1", "--turns", "16", "w1"],
         7,
         b"",
         b"",
@@ -67,19 +68,19 @@ const FIRST_ITEMS: [Row; 12] = [
         NONE,
     ),
     (
-        &["run", "--pattern", "O3D1000000", "--turns", "3", "w1"],
+        &["run", "--pattern", "O8D1000000", "--turns", "8", "w1"],
         7,
         b"",
         b"",
     ),
     (
-        &["trace", "--pattern", "T9O3", "--turns", "11", "w1"],
+        &["trace", "--pattern", "T9O3", "--turns", "34", "w1"],
         124,
         b"2 0 turns\n",
         TWO,
     ),
     (
-        &["trace", "--pattern", "T9O3", "--turns", "12", "w1"],
+        &["trace", "--pattern", "T9O3", "--turns", "35", "w1"],
         7,
         b"3 0 exit 7\n",
         b"",
