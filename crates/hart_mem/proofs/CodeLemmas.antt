@@ -1,9 +1,12 @@
 -- Code that is given, and code that isn't given yet; and where a word of it stands.
-use Rattle.std.proofs.Common.{◌≡◌, ℕ, ◌+◌, ◌-◌, ◌*◌, ◌/◌, ◌%◌, ◌^◌, ◌<◌, ◌≤◌, ◌==◌, ◌&&◌, Bool, true, false, nat_le, List, [], ◌∷◌, length, replicate, None, slice_get, refl, ap, arith}
+use Rattle.std.proofs.Common.{◌≡◌, ℕ, ◌+◌, ◌-◌, ◌*◌, ◌/◌, ◌%◌, ◌^◌, ◌<◌, ◌≤◌, ◌==◌, ◌&&◌, Bool, true, false, nat_le, List, [], ◌∷◌, length, replicate, map, None, slice_get, option_map, refl, sym, ap, ◌∙◌, arith}
 use Rattle.std.proofs.lemmas.Bool.Decides.{nat_tests}
-use Rattle.std.proofs.lemmas.Option.{slice_get_past}
+use Rattle.std.proofs.lemmas.Option.{slice_get_past, slice_get-map}
 use Rattle.rv_model.specs.Effect.{fetched}
+use Rattle.rv_decode.specs.Instruction.{instr_of}
 use Rattle.hart_mem.specs.Held.{code_or_zeros}
+use Rattle.hart_mem.specs.Operation.{instr_of_operation}
+use Rattle.hart_mem.specs.declared.operation.Operation.{Operation}
 
 pub code_given : (code : List ℕ) (count : ℕ) → 1 ≤ length code → code ≡ code_or_zeros code count
 unfolding code_or_zeros
@@ -46,3 +49,8 @@ module _ (start pc : ℕ) (aligned : start % 4 ≡ 0) (low : start < 2 ^ 62) (wo
       by_test (nat_le start pc && (pc % 4 == 0)) words ((pc - start) / 4) (index_of (offset_of start pc))
       (λ inside. index-inside (grind (arith, nat_tests)) (grind (arith, nat_tests)))
       (λ out. let past = index-outside (pc % 4 == 0) refl out in omega (arith, few, past))
+
+-- ---- the operation of a word
+
+pub operation-at : (operations : List Operation) (words : List ℕ) (index : ℕ) → map instr_of_operation operations ≡ map instr_of words → option_map instr_of_operation (slice_get operations index) ≡ option_map instr_of (slice_get words index)
+operation-at operations words index same = sym (slice_get-map instr_of_operation operations index) ∙ ap (λ is. slice_get is index) same ∙ slice_get-map instr_of words index

@@ -6,6 +6,7 @@ mod access;
 mod code;
 mod mem;
 mod number;
+mod operation;
 mod page_map;
 mod rights;
 #[cfg(test)]
@@ -13,4 +14,5 @@ mod tests;
 
 pub use access::{Access, StoreFault, Width};
 pub use mem::Mem;
+pub use operation::Operation;
 pub use rv_model::Bytes;

@@ -9,15 +9,17 @@ ghost use Rattle.rv_model.specs.Rights.{is_data, in_range, rights_of};
 ghost use Rattle.rv_model.specs.Space.{program_byte, sees, stored_in, word_at};
 ghost use Rattle.program_model.specs.Loading.{data_of};
 ghost use Rattle.hart_mem.specs.Access.{IsWidth, width_bytes};
+ghost use Rattle.hart_mem.specs.Operation.{instr_of_operation};
 ghost use Rattle.hart_mem.specs.Places.{place_of};
 ghost use Rattle.hart_mem.specs.Paged.{TakesPages, end_page};
 ghost use Rattle.hart_mem.specs.Held.{IsOffText, UsesSpare, data_byte, empty_space, lacks_frame, load_answer, shadow_words, most_frames, pages_stored, pages_wanted, space_of, spare_of, store_answer, text_words};
 
 use crate::access::{Access, StoreFault, Width};
 use crate::code::Code;
+use crate::operation::Operation;
 use crate::page_map::PageMap;
 use crate::rights::{find_to_load, find_to_store, is_all_data, is_data, is_in_text, page_count};
-use rv_decode::Instr;
+use rv_decode::{Instr, decode};
 use rv_model::Bytes;
 use spec_base::{
     HELPER_WORDS, HELPERS_START, Layout, NoMemory, SHADOW_START, STUB_START, STUB_WORDS, Version,
@@ -185,21 +187,32 @@ impl Mem {
 
     /// The instruction of the word at pc of the view's code. None exactly where pc is outside it or
     /// no multiple of 4.
-    #[tactic(auto, unfolding(crate::specs::Held::space_of, crate::specs::Held::spare_of))]
-    #[inline(always)]
     pub fn instr_at(&self, view: View, pc: u64) -> Option<Instr>
         ensures { result ≡ option_map instr_of (word_at view (space_of self.now) pc) }
     {
+        match self.fetch(view, pc) {
+            Some(word) => Some(decode(word)),
+            None => None,
+        }
+    }
+
+    /// The operation of the word at pc of the view's code. None exactly where pc is outside it or
+    /// no multiple of 4.
+    #[tactic(auto, unfolding(crate::specs::Held::space_of, crate::specs::Held::spare_of))]
+    #[inline(always)]
+    pub fn operation_at(&self, view: View, pc: u64) -> Option<Operation>
+        ensures { option_map instr_of_operation result ≡ option_map instr_of (word_at view (space_of self.now) pc) }
+    {
         match view {
-            View::Plain | View::Program => self.text.instr_at(self.layout.text_start, pc),
-            View::Stub => self.stub.instr_or_zero_at(STUB_WORDS, STUB_START, pc),
+            View::Plain | View::Program => self.text.operation_at(self.layout.text_start, pc),
+            View::Stub => self.stub.operation_or_zero_at(STUB_WORDS, STUB_START, pc),
             View::Shadow => {
                 if HELPERS_START <= pc {
                     self.helpers
-                        .instr_or_zero_at(HELPER_WORDS, HELPERS_START, pc)
+                        .operation_or_zero_at(HELPER_WORDS, HELPERS_START, pc)
                 } else {
                     let count = 16 * (self.text.words().len() + 1);
-                    self.shadow.instr_or_zero_at(count, SHADOW_START, pc)
+                    self.shadow.operation_or_zero_at(count, SHADOW_START, pc)
                 }
             }
         }

@@ -1,5 +1,6 @@
 pub mod Registers
 mod Spares
+mod Executions
 mod Starved
 mod Stores
 mod Views

@@ -1,6 +1,6 @@
 -- What a step of a shadow hart comes to, and many of them.
 use Rattle.std.proofs.Common.{◌≡◌, ◌≢◌, ◌<◌, ℕ, suc, Bool, true, false, Option, Some, None, refl, sym, ap, subst, ◌∙◌, inl, inr, arith}
-use Rattle.std.specs.Prelude.{◌%◌, ◌==◌}
+use Rattle.std.specs.Prelude.{◌%◌, ◌==◌, ℤ}
 use Rattle.std.specs.Option.{option_map}
 use Rattle.spec_base.specs.Word.{plus_int}
 use Rattle.spec_base.specs.declared.machine.Trap.TheVariants as trap
@@ -17,6 +17,9 @@ use Rattle.rv_model.specs.Rights.{Rights, rights_of}
 use Rattle.rv_model.specs.Effect.{Effect, Next, Stored, Trapped, Called, Gated, effect, jump_if, branch_if, load_if, store_if, even, after}
 use Rattle.rv_model.specs.Space.{Space, sees, word_at, word_effect, effect_at}
 use Rattle.hart_mem.specs.Held.{Held, lacks_frame, pages_stored}
+use Rattle.hart_mem.specs.Operation.{instr_of_operation}
+use Rattle.hart_mem.specs.declared.operation.Operation.{Operation}
+use Rattle.hart_mem.specs.declared.operation.Operation.TheVariants as operation
 use Rattle.hart_step.specs.Core.{Core}
 use Rattle.hart_step.specs.Step.{Outcome, outcome, stepped, store_outcome, gate_outcome, effect_of, effect_here}
 use Rattle.hart_step.specs.Flows.{core_at, flow_outcome}
@@ -133,6 +136,16 @@ module _ (lacks : ℕ → Bool) (c : Core) (s : Space) where
       subst (λ (v : View). (stepped lacks (effect v (rights_of v s.layout) (sees v s) c.registers c.pc i) c s).core.view ≡ c.view) (sym view)
       (instr-view (rights_of Shadow s.layout) (sees Shadow s) c.registers c.pc i)
 
+-- ---- which operations store
+
+pub other-store : (o : Operation) → ((rs1 rs2 : ℕ) (imm : ℤ) → o ≢ operation.Sb rs1 rs2 imm) → ((rs1 rs2 : ℕ) (imm : ℤ) → o ≢ operation.Sh rs1 rs2 imm)
+    → ((rs1 rs2 : ℕ) (imm : ℤ) → o ≢ operation.Sw rs1 rs2 imm) → ((rs1 rs2 : ℕ) (imm : ℤ) → o ≢ operation.Sd rs1 rs2 imm) → false ≡ is_store (instr_of_operation o)
+other-store (operation.Sb rs1 rs2 imm) b h w d = absurd (b rs1 rs2 imm refl)
+other-store (operation.Sh rs1 rs2 imm) b h w d = absurd (h rs1 rs2 imm refl)
+other-store (operation.Sw rs1 rs2 imm) b h w d = absurd (w rs1 rs2 imm refl)
+other-store (operation.Sd rs1 rs2 imm) b h w d = absurd (d rs1 rs2 imm refl)
+other-store _ b h w d = refl
+
 -- ---- what an instruction comes to
 
 module _ (h : Held) (c : Core) (s : Space) (i : Instr) (view : c.view ≡ Shadow) (next : Core) (there : Space) where
@@ -164,17 +177,9 @@ module _ (h : Held) (c : Core) (s : Space) (i : Instr) (view : c.view ≡ Shadow
   same-view (flow.Next pc) step = ap (λ (o : Outcome). o.core.view) step ∙ of-view (lacks_frame c.view h) c s i view ∙ view
   same-view (flow.Stop e) step = ap (λ (o : Outcome). o.core.view) step ∙ of-view (lacks_frame c.view h) c s i view ∙ view
 
--- ---- the word at the pc
+-- ---- no word at the pc
 
 module _ (c : Core) (s : Space) where
-  by-word : (i : Instr) (o : Option ℕ) → Some i ≡ option_map instr_of o → effect_of c s i ≡ word_effect c.view s c.registers c.pc o
-  by-word i None q = absurd (cc)
-  by-word i (Some word) q = let same : i ≡ instr_of word = cc in ap (λ (j : Instr). effect_of c s j) same
-
-  pub here-is : (i : Instr) → c.view ≡ Shadow → Some i ≡ option_map instr_of (word_at Shadow s c.pc) → effect_of c s i ≡ effect_here c s
-  unfolding effect_at
-  here-is i view q = subst (λ (v : View). effect_of c s i ≡ word_effect c.view s c.registers c.pc (word_at v s c.pc)) (sym view) (by-word i (word_at Shadow s c.pc) q)
-
   no-word : (o : Option ℕ) → None ≡ option_map instr_of o → Trapped trap.FetchOut ≡ word_effect c.view s c.registers c.pc o
   no-word None q = refl
   no-word (Some word) q = absurd (cc)

@@ -1,7 +1,9 @@
 //! A hart, and one step of it in each view.
 #![tactic(auto)]
 
+mod access;
 mod arithmetic;
+mod effects;
 mod event;
 mod flow;
 mod gates;

@@ -2,6 +2,7 @@
 
 ghost use Rattle.std.specs.Prelude.{◌≡◌, ◌≢◌, ◌≤◌};
 ghost use Rattle.hart_mem.specs.Held.{space_of, spare_of};
+ghost use Rattle.hart_mem.specs.Operation.{instr_of_operation};
 ghost use Rattle.hart_step.specs.Core.{core_of};
 ghost use Rattle.hart_step.specs.Flows.{core_at};
 ghost use Rattle.hart_step.specs.ShadowSteps.{ShadowStepsTo};
@@ -12,8 +13,7 @@ use crate::event::Event;
 use crate::flow::Flow;
 use crate::hart::Hart;
 use crate::stepping::execute;
-use hart_mem::Mem;
-use rv_decode::Instr;
+use hart_mem::{Mem, Operation};
 use spec_base::{Trap, View};
 
 /// What a step of a shadow hart comes to, whose pc is kept apart while it goes on.
@@ -27,12 +27,15 @@ pub(crate) enum Stride {
     Stop(Event),
 }
 
-// Whether an instruction stores.
+// Whether an operation stores.
 #[inline(always)]
-fn is_store(instr: &Instr) -> bool
-    ensures { result ≡ is_store instr.now }
+fn is_store(operation: &Operation) -> bool
+    ensures { result ≡ is_store (instr_of_operation operation.now) }
 {
-    matches!(instr, Instr::Store { .. })
+    matches!(
+        operation,
+        Operation::Sb(..) | Operation::Sh(..) | Operation::Sw(..) | Operation::Sd(..)
+    )
 }
 
 /// Makes at most `most` steps of a hart in the shadow's view: up to the first that tells something
@@ -71,8 +74,8 @@ fn step_shadow(hart: &mut Hart, mem: &mut Mem, pc: u64) -> Stride
     ensures view { (core_of hart.new).view ≡ View.Shadow }
     ensures spare { spare_of mem.new ≡ spare_of mem.old }
 {
-    match mem.instr_at(View::Shadow, pc) {
-        Some(instr) => execute_shadow(hart, mem, pc, instr),
+    match mem.operation_at(View::Shadow, pc) {
+        Some(operation) => execute_shadow(hart, mem, pc, operation),
         None => {
             hart.set_pc(pc);
             Stride::Stop(Event::Trap(Trap::FetchOut))
@@ -80,16 +83,16 @@ fn step_shadow(hart: &mut Hart, mem: &mut Mem, pc: u64) -> Stride
     }
 }
 
-// As `step_shadow`, by the instruction at pc.
+// As `step_shadow`, by the operation at pc.
 #[inline(always)]
-fn execute_shadow(hart: &mut Hart, mem: &mut Mem, pc: u64, instr: Instr) -> Stride
+fn execute_shadow(hart: &mut Hart, mem: &mut Mem, pc: u64, operation: Operation) -> Stride
     requires { (core_of hart.old).view ≡ View.Shadow }
-    ensures comes { Comes result mem.old (effect_of (core_at (core_of hart.old) pc) (space_of mem.old) instr) (core_at (core_of hart.old) pc) (space_of mem.old) (core_of hart.new) (space_of mem.new) }
+    ensures comes { Comes result mem.old (effect_of (core_at (core_of hart.old) pc) (space_of mem.old) (instr_of_operation operation)) (core_at (core_of hart.old) pc) (space_of mem.old) (core_of hart.new) (space_of mem.new) }
     ensures view { (core_of hart.new).view ≡ View.Shadow }
     ensures spare { spare_of mem.new ≡ spare_of mem.old }
 {
-    let stores = is_store(&instr);
-    stride_of(execute::<5>(hart, mem, View::Shadow, pc, instr), stores)
+    let stores = is_store(&operation);
+    stride_of(execute::<5>(hart, mem, View::Shadow, pc, operation), stores)
 }
 
 // What an instruction comes to, by whether it stores.

@@ -1,7 +1,7 @@
 use Rattle.std.proofs.Common.{sym}
 use Rattle.hart_mem.specs.Access.{width_bytes}
 use Rattle.hart_step.proofs.Stores.{store_made, store_out, store_starved}
-use Rattle.hart_step.proofs.stepping.store_by.Goals as goal
+use Rattle.hart_step.proofs.access.store_at.Goals as goal
 
 pub returns-in-Ok-clause-outcome : goal.returns-in-Ok-clause-outcome
 returns-in-Ok-clause-outcome c =
