@@ -8,6 +8,7 @@ use Rattle.hart_step.specs.Core.{Core}
 use Rattle.cache_queue.specs.State.{CacheState}
 use Rattle.program_model.specs.Cache.{Cache}
 use Rattle.runner_parts.specs.Parts.{OwnSide, own_side, side_core, ShowsCache, IsAtRest, Gathers, end_of_run}
+use Rattle.runner_parts.proofs.Finishes.{gathers-with}
 use Rattle.runner.specs.Shows.{Shows}
 use Rattle.runner.specs.declared.runner.Runner.{Runner}
 
@@ -40,26 +41,9 @@ cache-at_rest w o q cache held staged h rest e f =
 
 -- what it has, once the run has ended in a move in which it waits for nothing, or before
 pub gathers-ended : (w : World) (r q : Run) (cache : Cache) (staged : List ℕ) → r.end ≡ None → own_side q ≡ record (own_side r) { end = q.end } → Gathers w (own_side r) cache staged → Gathers w (own_side q) cache staged
-gathers-ended w r q cache staged goes same g = subst (λ (o : OwnSide). Gathers w o cache staged) (sym same) (by g)
-  where
-    by : Gathers w (own_side r) cache staged → Gathers w (record (own_side r) { end = q.end }) cache staged
-    by (inl rest) = inl (record { none = rest.none; goes = rest.goes; undemanded = rest.undemanded })
-    by (inr (inl g)) =
-        inr
-        (inl (record {
-          in_stub = g.in_stub;
-          at_call = g.at_call;
-          descriptor = g.descriptor;
-          spot = g.spot;
-          address = g.address;
-          planned = g.planned;
-          some = g.some;
-          more = g.more;
-          few = g.few;
-          staged_are = g.staged_are;
-          demanded = g.demanded;
-        }))
-    by (inr (inr x)) = absurd (let e : None ≡ Some StoreFailed = sym goes ∙ x.over in cc)
+gathers-ended w r q cache staged goes same g =
+    subst (λ (o : OwnSide). Gathers w o cache staged) (sym same)
+    (gathers-with w (own_side r) q.end cache cache staged refl (λ over. absurd (let e : None ≡ Some StoreFailed = sym goes ∙ over in cc)) g)
 
 -- no end is none
 pub still-none : (o : Option RunEnd) → option_map end_of_run o ≡ None → o ≡ None

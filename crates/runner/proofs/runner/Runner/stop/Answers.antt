@@ -1,8 +1,6 @@
-use Rattle.std.proofs.Common.{◌≡◌, Some, None, Option, ◌∷◌, [], ◌∙◌, refl, sym, ap}
-use Rattle.std.specs.Option.{option_map}
-use Rattle.run_model.specs.Run.{RunEnd}
+use Rattle.std.proofs.Common.{◌≡◌, Some, ◌∷◌, [], ◌∙◌, refl, sym, ap}
 use Rattle.run_model.specs.OwnMoves.{ended}
-use Rattle.runner.proofs.Moved.{gathers-ended}
+use Rattle.runner.proofs.Moved.{gathers-ended, still-none}
 use Rattle.machine_laws.specs.OneMachine.{space_of_run}
 use Rattle.runner_parts.specs.Parts.{end_of_run, run_end}
 use Rattle.runner_parts.specs.declared.turn.End.{End}
@@ -14,10 +12,6 @@ same-end (ending.Exit code) = refl
 same-end (ending.Trap cause pc) = refl
 same-end ending.Store = refl
 same-end ending.Sink = refl
-
-goes-on : (o : Option RunEnd) → option_map end_of_run o ≡ None → o ≡ None
-goes-on None e = refl
-goes-on (Some x) e = absurd cc
 
 pub returns-clause-shows : goal.returns-clause-shows
 unfolding space_of_run
@@ -32,7 +26,7 @@ returns-clause-shows c w r h =
         most = h.cache.most;
         depth = h.cache.depth;
         contents = h.cache.contents;
-        gathers = gathers-ended w r (ended r (run_end c.args.end) (c.args.note ∷ [])) r.cache c.args.self.now.staging.items (goes-on r.end (sym h.end ∙ c.requires.goes)) refl h.cache.gathers;
+        gathers = gathers-ended w r (ended r (run_end c.args.end) (c.args.note ∷ [])) r.cache c.args.self.now.staging.items (still-none r.end (sym h.end ∙ c.requires.goes)) refl h.cache.gathers;
       };
       counts = h.counts;
       ahead = h.ahead;
