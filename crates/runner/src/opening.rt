@@ -2,6 +2,7 @@
 
 ghost use Rattle.std.specs.Prelude.{◌≡◌, ◌≤◌, ◌+◌, length, map, string_bytes, vec_len, IfOk, None};
 ghost use Rattle.std.specs.List.{sum_by};
+ghost use Rattle.cache_queue.specs.State.{no_blocks};
 ghost use Rattle.hart_mem.specs.Held.{space_of};
 ghost use Rattle.hart_step.specs.Core.{core_of};
 ghost use Rattle.run_model.specs.Run.{World, opened_run};
@@ -37,6 +38,16 @@ fn zeros(alloc: Global, count: usize) -> Result<Vec<u8>, NoMemory>
     Ok(vec![in alloc; 0u8; count]?)
 }
 
+/// An empty cache, and the rooms of two reads.
+fn rooms(alloc: Global) -> Result<(Cache, Vec<u8>, Vec<u8>), NoMemory>
+    ensures { IfOk result (λ v. (v.0 ≡ no_blocks 256 64) × (vec_len v.1 ≡ 69_632) × (vec_len v.2 ≡ 69_632)) }
+{
+    let cache = Cache::new(alloc, BLOCKS, DEPTH)?;
+    let staging = zeros(alloc, STAGED)?;
+    let filling = zeros(alloc, STAGED)?;
+    Ok((cache, staging, filling))
+}
+
 impl Runner {
     /// A runner of a program, of which hart, memory and descriptors are those of its start. It shows the
     /// first state of the program's run. The cache's lists and the room of two reads are taken here.
@@ -45,13 +56,34 @@ impl Runner {
         ensures counts { IfOk result (λ v. v.counts ≡ no_counts) }
         ensures goes_on { IfOk result (λ v. v.end ≡ None) }
     {
-        let cache = Cache::new(alloc, BLOCKS, DEPTH)?;
-        let staging = zeros(alloc, STAGED)?;
-        let filling = zeros(alloc, STAGED)?;
+        match rooms(alloc) {
+            Ok((cache, staging, filling)) => {
+                Ok(Runner::at_start(own, mem, files, cache, staging, filling))
+            }
+            Err(NoMemory) => Err(NoMemory),
+        }
+    }
+
+    // The same with an empty cache and with these rooms.
+    fn at_start(
+        own: Hart,
+        mem: Mem,
+        files: Files,
+        cache: Cache,
+        staging: Vec<u8>,
+        filling: Vec<u8>,
+    ) -> Runner
+        requires empty { cache ≡ no_blocks 256 64 }
+        requires staged { vec_len staging ≡ 69_632 }
+        requires filled { vec_len filling ≡ 69_632 }
+        ensures shows { (w : World) → Accepted w → IsStart w (core_of own) (space_of mem) files → Shows result w (opened_run w) }
+        ensures counts { result.counts ≡ no_counts }
+        ensures goes_on { result.end ≡ None }
+    {
         let shadow = Hart::new(0, View::Shadow);
         let counts = Counts::new();
         let notes = Notes::new();
-        Ok(Runner {
+        Runner {
             mem,
             own,
             own_files: files,
@@ -70,7 +102,7 @@ impl Runner {
             end: None,
             notes,
             text: 0,
-        })
+        }
     }
 
     /// Opens a rewritten file, which is any list of bytes, with these arguments: 64 at most, of

@@ -6,7 +6,7 @@ use Rattle.cache_queue.specs.Finishes.{TrueTo}
 use Rattle.hart_step.specs.Core.{Core}
 use Rattle.mark_laws.specs.Sizes.{TrueSizes}
 use Rattle.mark_laws.proofs.Sizes.{sizes_are_true}
-use Rattle.runner.proofs.runner.Runner.new.Goals as goal
+use Rattle.runner.proofs.runner.Runner.at_start.Goals as goal
 
 pub returns-clause-shows : goal.returns-clause-shows
 unfolding run_from
@@ -22,10 +22,10 @@ returns-clause-shows c = λ w a first. record {
   };
   sizes = subst (λ (f : Descriptors). TrueSizes w.files f) (sym first.files_are) (sizes_are_true w a []).own;
   cache = record {
-    lists_are = ap lists c.in_ok-cache.ensures;
-    most = ap (λ (k : CacheState). k.blocks.most) c.in_ok-cache.ensures;
-    depth = ap (λ (k : CacheState). k.depth) c.in_ok-cache.ensures;
-    contents = subst (λ (k : CacheState). TrueTo w.files k.blocks) (sym c.in_ok-cache.ensures) (λ spot. tt);
+    lists_are = ap lists c.requires.empty;
+    most = ap (λ (k : CacheState). k.blocks.most) c.requires.empty;
+    depth = ap (λ (k : CacheState). k.depth) c.requires.empty;
+    contents = subst (λ (k : CacheState). TrueTo w.files k.blocks) (sym c.requires.empty) (λ spot. tt);
     gathers = inl (record { none = refl; goes = refl; undemanded = refl });
   };
   counts = c.new-counts.ensures;
