@@ -1,16 +1,23 @@
 -- A move of the shadow, and what it asks.
-use Rattle.std.proofs.Common.{◌≡◌, Bool, true, false, not, ◌&&◌, ◌||◌, Option, Some, None, refl, sym, ap, subst, ◌∙◌}
+use Rattle.std.proofs.Common.{◌≡◌, ℕ, Bool, true, false, not, ◌&&◌, ◌||◌, Option, Some, None, refl, sym, ap, subst, ◌∙◌}
+use Rattle.spec_base.specs.declared.machine.Trap.{Trap}
 use Rattle.spec_base.specs.declared.note.Move.TheVariants.{S, T}
 use Rattle.spec_base.specs.declared.note.ShadowState.{ShadowState}
 use Rattle.spec_base.specs.declared.note.ShadowState.TheVariants.{Never, Running, Stopped, Parked}
+use Rattle.spec_base.specs.declared.park.Park.{Park}
 use Rattle.rv_decode.specs.declared.instr.Instr.{Instr}
 use Rattle.rv_decode.specs.declared.instr.Instr.TheVariants.{Hcall}
+use Rattle.rv_model.specs.Space.{Space}
+use Rattle.hart_step.specs.Core.{Core}
+use Rattle.hart_step.specs.declared.event.Event.{Event}
+use Rattle.hart_step.specs.declared.event.Event.TheVariants as event
+use Rattle.word_laws.specs.ShadowWords.{WordLeads}
 use Rattle.run_model.specs.Run.{World, Run, RunEnd, Answer}
 use Rattle.run_model.specs.ShadowMoves.{is_running, is_call_word, fetch_shadow, shadow_plan, shadow_step, assumed}
 use Rattle.run_model.specs.Moves.{begun, step, step_unless, shadow_while, is_idle}
 use Rattle.program_model.specs.Calls.{CallPlan}
 use Rattle.world_io.specs.Outside.{StoreState}
-use Rattle.runner.specs.ShadowGoes.{Assumes, StoreAnswers}
+use Rattle.runner.specs.ShadowGoes.{Assumes, IsMade, StoreAnswers}
 use Rattle.runner.specs.Shows.{Shows}
 use Rattle.runner.specs.Stretches.{is_key_or_call}
 use Rattle.runner.specs.declared.runner.Runner.{Runner}
@@ -26,6 +33,27 @@ running-is (Parked cause) e = absurd (let f : false ≡ true = e in cc)
 pub not-call : (i : Option Instr) → is_key_or_call i ≡ false → is_call_word i ≡ false
 not-call (Some (Hcall unhinted)) none = none
 not-call _ none = refl
+
+-- a word that is no call, by what the runner shows behind it
+pub made-by :
+    (u : Runner) (w : World) (r q : Run) → is_call_word (fetch_shadow w r.shadow.pc) ≡ false → ((x : Answer) → shadow_step w x r ≡ q) → Shows u w q → IsMade u w r
+made-by u w r q none leads h = record { no_call = none; shows = λ x. subst (λ (k : Run). Shows u w k) (sym (leads x)) h }
+
+-- no other event comes of a word
+pub no_other_word :
+    (w : World) (r : Run) (d : Core) (t : Space) (e : Event) → (e ≡ event.Done → ⊥) → ((p : Park) → e ≡ event.Park p → ⊥) → ((rd : ℕ) → e ≡ event.Key rd → ⊥)
+    → ((u : Bool) → e ≡ event.Call u → ⊥) → ((x : Trap) → e ≡ event.Trap x → ⊥) → WordLeads e w r d t → ⊥
+no_other_word w r d t event.Done nd np nk nc nt h = nd refl
+no_other_word w r d t (event.Park p) nd np nk nc nt h = np p refl
+no_other_word w r d t (event.Key rd) nd np nk nc nt h = nk rd refl
+no_other_word w r d t (event.Call u) nd np nk nc nt h = nc u refl
+no_other_word w r d t (event.Trap x) nd np nk nc nt h = nt x refl
+no_other_word w r d t event.Leave nd np nk nc nt h = h
+no_other_word w r d t event.Stop nd np nk nc nt h = h
+no_other_word w r d t event.Restart nd np nk nc nt h = h
+no_other_word w r d t event.Gate nd np nk nc nt h = h
+no_other_word w r d t event.NoMemory nd np nk nc nt h = h
+no_other_word w r d t event.Ecall nd np nk nc nt h = h
 
 module _ (w : World) (r : Run) (goes : r.end ≡ None) where
   -- a running shadow asks what its call asks
