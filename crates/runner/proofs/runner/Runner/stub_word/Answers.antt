@@ -356,3 +356,42 @@ returns-in-Call-clause-caused g c = c.own_call.ensures.caused
 
 pub returns-in_default-clause-caused : goal.returns-in_default-clause-caused
 returns-in_default-clause-caused g c = still-caused _ _ c.requires.on
+
+pub trap-requires : goal.trap-requires
+trap-requires g c = record { goes = c.requires.on }
+
+pub own_call-requires-clause-begun : goal.own_call-requires-clause-begun
+own_call-requires-clause-begun g c = c.requires.begun
+
+pub own_call-requires-clause-quiet : goal.own_call-requires-clause-quiet
+own_call-requires-clause-quiet g c = c.requires.quiet
+
+pub own_call-requires-clause-on : goal.own_call-requires-clause-on
+own_call-requires-clause-on g c = c.requires.on
+
+pub own_call-requires-clause-goes : goal.own_call-requires-clause-goes
+own_call-requires-clause-goes g c = c.requires.goes
+
+pub returns-in-Done-clause-moves : goal.returns-in-Done-clause-moves
+returns-in-Done-clause-moves g c = refl
+
+pub returns-in-Leave-clause-moves : goal.returns-in-Leave-clause-moves
+returns-in-Leave-clause-moves g c = refl
+
+pub returns-in-Key-clause-moves : goal.returns-in-Key-clause-moves
+returns-in-Key-clause-moves g c = c.own_key.ensures.moves
+
+pub returns-in-Stop-clause-moves : goal.returns-in-Stop-clause-moves
+returns-in-Stop-clause-moves g c = refl
+
+pub returns-in-Restart-clause-moves : goal.returns-in-Restart-clause-moves
+returns-in-Restart-clause-moves g c = c.restart.ensures.moves
+
+pub returns-in-Trap-clause-moves : goal.returns-in-Trap-clause-moves
+returns-in-Trap-clause-moves g c = c.trap.ensures.moves
+
+pub returns-in-Call-clause-moves : goal.returns-in-Call-clause-moves
+returns-in-Call-clause-moves g c = c.own_call.ensures.moves
+
+pub returns-in_default-clause-moves : goal.returns-in_default-clause-moves
+returns-in_default-clause-moves g c = refl
