@@ -1,4 +1,5 @@
 pub mod Counts
+pub mod Counters
 pub mod Parts
 pub mod Plans
 pub mod Answers

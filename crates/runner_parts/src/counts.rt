@@ -7,7 +7,7 @@ ghost use Rattle.runner_parts.specs.Counts.{AreBelow, no_counts, one_move, more_
 use std::marker::Model;
 
 /// The counts over a run, and those since the last restart. None is above the moves.
-#[derive(Clone, Copy, Debug)]
+#[derive(Drop)]
 pub struct Counts {
     moves: u64,
     own_done: u64,
@@ -21,45 +21,14 @@ pub struct Counts {
 }
 
 impl Model for Counts {
-    ghost use Rattle.runner_parts.specs.Counts.{Counted, AreFew};
+    ghost use Rattle.runner_parts.specs.Counts.{Counted};
+    ghost use Rattle.runner_parts.specs.Counters.{counted_of, AreSound};
 
     ghost Value = { Counted };
 
-    ghost view = { λ c. record {
-      moves = c.moves;
-      own_done = c.own_done;
-      stalls = c.stalls;
-      restarts = c.restarts;
-      matched = c.matched;
-      hints = c.hints;
-      regions_most = c.regions_most;
-      own_since = c.own_since;
-      shadow_since = c.shadow_since;
-    } };
+    ghost view = { counted_of };
 
-    ghost invariant = { λ c. AreFew (record {
-      moves = c.moves;
-      own_done = c.own_done;
-      stalls = c.stalls;
-      restarts = c.restarts;
-      matched = c.matched;
-      hints = c.hints;
-      regions_most = c.regions_most;
-      own_since = c.own_since;
-      shadow_since = c.shadow_since;
-    }) };
-
-    ghost inverse = { λ c. record {
-      moves = c.moves;
-      own_done = c.own_done;
-      stalls = c.stalls;
-      restarts = c.restarts;
-      matched = c.matched;
-      hints = c.hints;
-      regions_most = c.regions_most;
-      own_since = c.own_since;
-      shadow_since = c.shadow_since;
-    } };
+    ghost invariant = { AreSound };
 }
 
 impl Counts {
