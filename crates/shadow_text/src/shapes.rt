@@ -102,24 +102,44 @@ fn link_spill(rd: Reg) -> Instr
     }
 }
 
+/// Leaves in ADR what a `jalr` adds up.
+fn target_words(rs1: Reg, imm: i64) -> [Instr; 3]
+    requires { FitsIn 12 imm }
+    ensures words { result ≡ asm.sd 31 asm.X31 0 ∷ asm.addi 31 rs1 imm ∷ asm.sd 31 asm.ADR 0 ∷ [] }
+    ensures encodable { All IsEncodable result }
+{
+    [
+        sd(x(31), X31, x(0)),
+        addi(x(31), rs1, imm),
+        sd(x(31), ADR, x(0)),
+    ]
+}
+
+/// Links, spills, and goes to a helper.
+fn link_words(link: u64, rd: Reg, spill: Instr, helper: u64) -> [Instr; 5]
+    requires spill { IsEncodable spill }
+    ensures words { result ≡ asm.lui rd (asm.hi link) ∷ asm.addi rd rd (asm.lo link) ∷ spill
+        ∷ asm.lui 31 (asm.hi helper) ∷ asm.jalr 0 (asm.lo helper) 31 ∷ [] }
+    ensures encodable { All IsEncodable result }
+{
+    [
+        lui(rd, hi(link)),
+        addi(rd, rd, lo(link)),
+        spill,
+        lui(x(31), hi(helper)),
+        jalr(x(0), lo(helper), x(31)),
+    ]
+}
+
 /// `jalr`: the target goes to ADR before rd is written, and the helper JUMP takes it up.
 pub fn jalr_block(pc: u64, rd: Reg, rs1: Reg, imm: i64) -> [u32; BLOCK_WORDS]
     requires pc { pc < 2 ^ 32 }
     requires imm { FitsIn 12 imm }
     ensures { result ≡ map word_of (spec.with_pad (spec.jalr_words pc rd rs1 imm)) }
 {
-    let link = pc + 4;
-    let jump = HELPERS_START + JUMP;
-    block_of(&[
-        sd(x(31), X31, x(0)),
-        addi(x(31), rs1, imm),
-        sd(x(31), ADR, x(0)),
-        lui(rd, hi(link)),
-        addi(rd, rd, lo(link)),
-        link_spill(rd),
-        lui(x(31), hi(jump)),
-        jalr(x(0), lo(jump), x(31)),
-    ])
+    let target = target_words(rs1, imm);
+    let link = link_words(pc + 4, rd, link_spill(rd), HELPERS_START + JUMP);
+    block_of_both(&target, &link)
 }
 
 /// Where a taken branch goes on: at the block of its target, or to a park.
