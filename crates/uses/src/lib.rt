@@ -4,3 +4,4 @@
 
 pub mod blocks;
 pub mod files;
+pub mod rewriting;
